@@ -52,7 +52,7 @@ static void run(mdb_net_client *client, const char *name, char *words) {
         if (!strncmp(word, "cancel=", 7) || !strncmp(word, "stop=", 5)) meanwhile.after = strtoul(value, NULL, 10);
         if (!strncmp(word, "cancel=", 7) && mdb_net_cancel_new(client, &meanwhile.cancel) != MDB_NET_OK) abort();
         if (!strncmp(word, "stop=", 5)) meanwhile.stopped = client;
-        if (!strcmp(word, "any")) options.preference = MDB_NET_ANY;
+        if (!strcmp(word, "any")) options.preference = MDB_NET_NEAREST;
         if (!strcmp(word, "read")) options.is_read = true;
     }
     options.cancel = meanwhile.cancel;

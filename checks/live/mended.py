@@ -38,15 +38,16 @@ FAST = 'replicaSet=rs&heartbeatFrequencyMS=500&connectTimeoutMS=500'
 class Played:
     """Servers, and a program that is connected to them."""
 
-    def __init__(self, given, options, words=(), kind='replica', count=3, before=('elect 0',), seeds=None, env=None, limit=None, stdout=None):
+    def __init__(self, given, options, words=(), kind='replica', count=3, before=('elect 0',), seeds=None, env=None, limit=None, stdout=None, servers=(),
+                 who='', program=None):
         self.given, self.folder = given, tempfile.TemporaryDirectory()
         self.log = os.path.join(self.folder.name, 'log')
-        self.servers = Servers(given.python, kind, count)
+        self.servers = Servers(given.python, kind, count, words=servers)
         for command in before:
             self.servers.do(command)
         seeds = self.servers.addresses[:seeds] if seeds else self.servers.addresses
-        self.uri = 'mongodb://%s/?%s' % (','.join(seeds), options)
-        words = [given.program, self.uri, '100', *(self.log if it == 'LOG' else it for it in words)]
+        self.uri = 'mongodb://%s%s/?%s' % (who, ','.join(seeds), options)
+        words = [program or given.program, self.uri, '100', *(self.log if it == 'LOG' else it for it in words)]
         self.written, self.errors = tempfile.TemporaryFile('w+'), tempfile.TemporaryFile('w+')
         self.began = time.monotonic()
         self.program = subprocess.Popen(words, stdout=stdout or self.written, stderr=self.errors, env={**os.environ, **(env or {})},
@@ -359,7 +360,7 @@ def options(given):
     servers = Servers(given.python, 'replica', 1)
     servers.do('elect 0')
     taken = ['connectTimeoutMS=0', 'maxPoolSize=0', 'waitQueueTimeoutMS=0', 'socketTimeoutMS=0', 'replicaSet=%72s', 'replicaSet=r%73&maxIdleTimeMS=0', 'appName=a%20b%26c', 'retryReads=false', 'ssl=false']
-    refused = ['replicaSet=%7', 'replicaSet=%zz', 'maxPoolSize=-1', 'connectTimeoutMS=x', 'heartbeatFrequencyMS=499', 'tls=true', 'replicaSet=a%00b', 'loadBalanced=yes']
+    refused = ['replicaSet=%7', 'replicaSet=%zz', 'maxPoolSize=-1', 'connectTimeoutMS=x', 'heartbeatFrequencyMS=499', 'tls=true&ssl=false', 'readPreference=x', 'maxStalenessSeconds=90', 'replicaSet=a%00b', 'loadBalanced=yes']
     wrong = []
     for option in taken + refused:
         ran = subprocess.run([given.program, 'mongodb://%s/?%s' % (servers.addresses[0], option), '1'], stdout=subprocess.PIPE, stderr=subprocess.PIPE, text=True)
@@ -392,8 +393,8 @@ class Calls:
         """The numbers of the answer, by their names."""
         self.program.stdin.write(line + '\n')
         self.program.stdin.flush()
-        code, *words = self.program.stdout.readline().split(' ')
-        return {'code': int(code), **{name: int(value) for name, value in (it.split('=') for it in words[:6])}}
+        code, *words = self.program.stdout.readline().rstrip('\n').split(' ')
+        return {'code': int(code), **{name: int(value) for name, value in (it.split('=') for it in words[:6])}, 'text': ' '.join(words[6:])}
 
     def end(self):
         self.program.stdin.close()
@@ -436,7 +437,8 @@ def calls(given):
     expect('run 1 ping any read', OK)
     expect('stop 1 8', OK)
     expect('run 1 ping any', CLOSED, sent=0)
-    expect('open mongodb://a:b@c', OPTIONS)
+    expect('open mongodb://a:b@c:d@e', OPTIONS)
+    expect('open mongodb://a@c', OPTIONS)
     expect('open mongodb://c,', OPTIONS)
     expect('open mongodb://c/?directConnection=true&loadBalanced=true', OPTIONS)
     expect('open mongodb+srv://cluster.live.test/?directConnection=true', OPTIONS)
@@ -444,7 +446,7 @@ def calls(given):
     status, errors = made.end()
     one.close()
     two.close()
-    return status == 0 and not wrong, '20 calls, status %d %s; wrong: %s' % (status, errors, wrong or 'none')
+    return status == 0 and not wrong, '21 calls, status %d %s; wrong: %s' % (status, errors, wrong or 'none')
 
 
 SCENARIOS = {it.__name__.replace('_', '-'): it for it in (

@@ -57,8 +57,8 @@ class View:
 
 
 class Servers:
-    def __init__(self, python, kind, count, seconds=120):
-        self.program = subprocess.Popen([python, os.path.join(HERE, 'servers.py'), kind, str(count), '--seconds', str(seconds)], stdin=subprocess.PIPE, stdout=subprocess.PIPE, text=True)
+    def __init__(self, python, kind, count, seconds=120, words=()):
+        self.program = subprocess.Popen([python, os.path.join(HERE, 'servers.py'), kind, str(count), '--seconds', str(seconds), *words], stdin=subprocess.PIPE, stdout=subprocess.PIPE, text=True)
         self.addresses = self.program.stdout.readline().split()[1].split(',')
 
     def ask(self, question):

@@ -4,6 +4,7 @@
 #include "monitor.h"
 #include "pool.h"
 #include "srv.h"
+#include "tls.h"
 #include <stdio.h>
 #include <stdlib.h>
 #include <string.h>
@@ -28,6 +29,9 @@ static void destroy(client_t *client) {
     for (size_t i = 0; i < sizeof conditions / sizeof *conditions; i++) pthread_cond_destroy(conditions[i]);
     pthread_mutex_destroy(&client->lock);
     lookup_free(client->lookup);
+    tls_context_free(client->tls);
+    explicit_bzero(&client->options, sizeof client->options);
+    explicit_bzero(&client->keys, sizeof client->keys);
     free(client);
 }
 
@@ -40,9 +44,11 @@ static mdb_net_code read_options(client_t *client, const char *uri, const mdb_ne
     client->tells = given ? given->tells : 0;
     client->rescan = given ? given->rescan : 0;
     if (!uri_read(&client->options, uri, why)) return MDB_NET_OPTIONS;
-    if (!client->options.srv_host[0]) return MDB_NET_OK;
-    if (!(client->lookup = lookup_new(client->dns))) return MDB_NET_NO_MEMORY;
-    return srv_resolve(client->lookup, &client->options, why) ? MDB_NET_OK : MDB_NET_DNS;
+    if (client->options.tls.on && !(client->tls = tls_context_new(&client->options.tls, why))) return why->length ? MDB_NET_OPTIONS : MDB_NET_NO_MEMORY;
+    if (client->options.srv_host[0] && !(client->lookup = lookup_new(client->dns))) return MDB_NET_NO_MEMORY;
+    if (client->lookup && !srv_resolve(client->lookup, &client->options, why)) return MDB_NET_DNS;
+    options_end(&client->options);
+    return MDB_NET_OK;
 }
 
 // Starts the driver and the threads that always run. The keeper starts all others.

@@ -6,6 +6,7 @@
 #include "mdb_net.h"
 #include "notices.h"
 #include "options.h"
+#include "scram.h"
 #include "table.h"
 #include "threads.h"
 
@@ -22,6 +23,8 @@ struct mdb_net_client {
     mdb_slot slot;
     uint64_t began; // nanoseconds of the monotonic clock: the moment 0
     struct options options;
+    struct tls_context *tls; // NULL where bytes go as they are
+    struct scram_keys keys;  // of the last proof
     uint32_t tells, rescan;
     char dns[ADDRESS_ROOM]; // empty for the machine's
     pthread_cond_t changed; // the topology changed, or all is to stop

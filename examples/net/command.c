@@ -43,7 +43,9 @@ static mdb_net_code choose(struct operation *operation, struct chosen *chosen) {
     mdb_status status = MDB_NO_ENTRY;
     uint32_t watcher = 0;
     client_lock(client);
-    struct wanted wanted = { operation->options.preference, client->options.near, client->turn++ };
+    struct wanted wanted = {
+        .preference = operation->options.preference, .tags = client->options.tags, .avoided = "", .near = client->options.near, .turn = client->turn++
+    };
     while (!(over = limit_over(client, &operation->limit)) && (status = topology_choose(&client->slot, &wanted, chosen)) != MDB_OK) {
         uint64_t again = status == MDB_NO_MEMORY ? clock_now() + 10 * MILLISECOND : NO_DEADLINE;
         if (clock_now() >= until) {
@@ -85,17 +87,6 @@ static enum net_fault exchange(struct operation *operation, struct conn *conn, c
     if (!fault) fault = wire_receive(conn, &operation->reply);
     conn->sock.cancel = -1;
     return !fault && operation->reply.more ? NET_MALFORMED : fault;
-}
-
-static mdb_net_code code_of_fault(enum net_fault fault) {
-    switch (fault) {
-    case NET_FINE: return MDB_NET_OK;
-    case NET_TIMED_OUT: return MDB_NET_TIMED_OUT;
-    case NET_CANCELLED: return MDB_NET_CANCELLED;
-    case NET_NO_FILES: return MDB_NET_NO_FILES;
-    case NET_NO_MEMORY: return MDB_NET_NO_MEMORY;
-    default: return MDB_NET_NETWORK;
-    }
 }
 
 // What the exchange came to; `line` is what libmdb is to be told, empty for nothing. Answers how the connection was used.
@@ -143,20 +134,20 @@ static const char *text_of(mdb_net_code code) {
 
 static void attempt(struct operation *operation) {
     struct chosen chosen;
-    struct checked_out out;
+    struct checked_out out = { .pooled = NULL };
     mdb_net_err *err = &operation->err;
     err->code = choose(operation, &chosen);
     if (err->code == MDB_NET_OK) err->code = check_out(operation->client, chosen.address, &operation->limit, &out);
-    bool may_read = operation->options.is_read || operation->options.preference == MDB_NET_ANY;
+    bool may_read = operation->options.is_read || operation->options.preference > MDB_NET_PRIMARY;
     if (err->code == MDB_NET_OK) use(operation, &out, may_read ? chosen.mode : NULL);
-    else say(err, text_of(err->code));
+    else say(err, out.cause.text[0] ? out.cause.text : text_of(err->code));
 }
 
 // Whether it is tried once more ("Retryable Reads").
 static bool is_retried(const struct operation *operation) {
     const mdb_net_err *err = &operation->err;
     if (!operation->options.is_read || !operation->client->options.retry_reads) return false;
-    if (err->code == MDB_NET_COMMAND) return is_retryable_code(err->server_code);
+    if (err->code == MDB_NET_COMMAND) return is_state_change(err->server_code);
     bool over = clock_now() >= operation->limit.deadline;
     return err->code == MDB_NET_NETWORK || err->code == MDB_NET_CLEARED || (err->code == MDB_NET_TIMED_OUT && err->sent && !over);
 }

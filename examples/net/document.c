@@ -1,7 +1,7 @@
 #include "document.h"
 #include <string.h>
 
-enum { TEXT = 0x02, DOCUMENT = 0x03, LIST = 0x04, ID = 0x07, BOOL = 0x08, INT32 = 0x10, INT64 = 0x12 };
+enum { TEXT = 0x02, DOCUMENT = 0x03, LIST = 0x04, BINARY = 0x05, ID = 0x07, BOOL = 0x08, INT32 = 0x10, INT64 = 0x12 };
 
 static void put(struct document *document, const void *bytes, size_t length) {
     document->full = document->full || length > DOCUMENT_ROOM - document->length;
@@ -69,6 +69,18 @@ void put_text(struct document *document, const char *name, const char *value) {
 void put_id(struct document *document, const char *name, const uint8_t id[12]) {
     put_head(document, ID, name);
     put(document, id, 12);
+}
+
+void put_binary(struct document *document, const char *name, uint8_t subtype, const void *bytes, size_t length) {
+    put_head(document, BINARY, name);
+    put_number(document, length, 4);
+    put(document, &subtype, 1);
+    put(document, bytes, length);
+}
+
+void put_raw(struct document *document, const char *name, const uint8_t *bytes, size_t length) {
+    put_head(document, DOCUMENT, name);
+    put(document, bytes, length);
 }
 
 void put_open(struct document *document, const char *name) {

@@ -6,7 +6,7 @@
 #include <stddef.h>
 #include <stdint.h>
 
-enum { DOCUMENT_ROOM = 1024, DEPTH_MOST = 4 };
+enum { DOCUMENT_ROOM = 2048, DEPTH_MOST = 4 };
 
 // Begins as DOCUMENT_INIT. Where a field did not fit `full` is set, and nothing more is written.
 struct document {
@@ -25,6 +25,8 @@ void put_int64(struct document *document, const char *name, int64_t value);
 void put_bool(struct document *document, const char *name, bool value);
 void put_text(struct document *document, const char *name, const char *value);
 void put_id(struct document *document, const char *name, const uint8_t id[12]);
+void put_binary(struct document *document, const char *name, uint8_t subtype, const void *bytes, size_t length);
+void put_raw(struct document *document, const char *name, const uint8_t *bytes, size_t length); // a document, as its bytes
 
 // The fields from here to put_close are those of a document that is a field itself.
 void put_open(struct document *document, const char *name);

@@ -11,8 +11,25 @@ void error_of_fault(struct text *line, enum net_fault fault, const char *doing) 
 
 void error_of_form(struct text *line, const char *what) { text_add(line, "other msg=bad reply to a hello: %s", what); }
 
-bool is_retryable_code(int32_t code) {
-    static const int32_t codes[] = { 6, 7, 89, 91, 134, 189, 262, 9001, 10107, 11600, 11602, 13435, 13436 };
+void error_of_tls(struct text *line, const char *why) {
+    text_add(line, "network msg=TLS: ");
+    if (why) text_add_plain(line, why, strlen(why), MESSAGE_BYTES);
+    else text_add(line, "%s", fault_text(NET_NO_TLS));
+}
+
+mdb_net_code code_of_fault(enum net_fault fault) {
+    switch (fault) {
+    case NET_FINE: return MDB_NET_OK;
+    case NET_TIMED_OUT: return MDB_NET_TIMED_OUT;
+    case NET_CANCELLED: return MDB_NET_CANCELLED;
+    case NET_NO_FILES: return MDB_NET_NO_FILES;
+    case NET_NO_MEMORY: return MDB_NET_NO_MEMORY;
+    default: return MDB_NET_NETWORK;
+    }
+}
+
+bool is_state_change(int32_t code) {
+    static const int32_t codes[] = { 91, 189, 10058, 10107, 11600, 11602, 13435, 13436 };
     for (size_t i = 0; i < sizeof codes / sizeof *codes; i++) {
         if (codes[i] == code) return true;
     }
@@ -58,15 +75,25 @@ static void find_parts(struct findings *found, const bson_iter_t *at) {
     if (bson_iter_recurse(at, &first) && bson_iter_next(&first)) find_inner(found, &first, MDB_NET_WRITES);
 }
 
-static void put_labels(struct text *line, const bson_iter_t *labels) {
+static uint32_t label_of(const char *label) {
+    if (!strcmp(label, "RetryableWriteError")) return LABEL_RETRYABLE_WRITE;
+    return strcmp(label, "NoWritesPerformed") ? 0 : LABEL_NO_WRITES;
+}
+
+// Answers which of them mean something here.
+static uint32_t put_labels(struct text *line, const bson_iter_t *labels) {
     bson_iter_t item;
+    uint32_t known = 0;
     int count = 0;
-    if (!bson_iter_recurse(labels, &item)) return;
+    if (!bson_iter_recurse(labels, &item)) return 0;
     while (count < LABELS_MOST && bson_iter_next(&item)) {
         uint32_t length = 0;
         const char *label = BSON_ITER_HOLDS_UTF8(&item) ? bson_iter_utf8(&item, &length) : "";
-        if (is_name(label, length)) text_add(line, "%s%s", count++ ? "," : " labels=", label);
+        if (!is_name(label, length)) continue;
+        text_add(line, "%s%s", count++ ? "," : " labels=", label);
+        known |= label_of(label);
     }
+    return known;
 }
 
 static void put_version(struct text *line, const bson_iter_t *version) {
@@ -87,11 +114,11 @@ static void put_message(struct text *line, const struct findings *found) {
 }
 
 static struct verdict spell(struct text *line, const struct findings *found) {
-    struct verdict verdict = { found->kind ? found->kind : MDB_NET_COMMAND, 0 };
+    struct verdict verdict = { .code = found->kind ? found->kind : MDB_NET_COMMAND };
     double code = found->has_code ? number_of(&found->code) : -1;
     if (code >= 0 && code <= INT32_MAX && code == (int32_t)code) text_add(line, "command.%d", verdict.server_code = (int32_t)code);
     else text_add(line, "other");
-    if (found->has_labels) put_labels(line, &found->labels);
+    if (found->has_labels) verdict.labels = put_labels(line, &found->labels);
     if (found->has_version) put_version(line, &found->version);
     put_message(line, found);
     return verdict;
@@ -108,8 +135,8 @@ struct verdict error_of_reply(struct text *line, const struct reply *reply) {
     }
     if (!well || at.err_off) {
         error_of_fault(line, NET_MALFORMED, "reply");
-        return (struct verdict){ MDB_NET_NETWORK, 0 };
+        return (struct verdict){ .code = MDB_NET_NETWORK };
     }
     if (!found.fine) found.kind = MDB_NET_COMMAND;
-    return found.kind ? spell(line, &found) : (struct verdict){ MDB_NET_OK, 0 };
+    return found.kind ? spell(line, &found) : (struct verdict){ .code = MDB_NET_OK };
 }

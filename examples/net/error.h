@@ -10,19 +10,29 @@
 // What went wrong on a connection; with a shortage of this machine it has the label by which no server is blamed.
 void error_of_fault(struct text *line, enum net_fault fault, const char *doing);
 
+// TLS could not begin; `why` may say more.
+void error_of_tls(struct text *line, const char *why);
+
+// What a fault on a connection is to the caller.
+mdb_net_code code_of_fault(enum net_fault fault);
+
 // A reply of a server that has another form than a reply must have.
 void error_of_form(struct text *line, const char *what);
+
+// Labels of errors that mean something here.
+enum { LABEL_RETRYABLE_WRITE = 1, LABEL_NO_WRITES = 2 };
 
 // What a reply tells of the command.
 struct verdict {
     mdb_net_code code; // OK, COMMAND, CONCERN, WRITES, or NETWORK where the bytes are no document
     int32_t server_code;
+    uint32_t labels; // LABEL_
 };
 
 // Reads a reply; `line` is the error that it tells, where it does. Of an error in single writes libmdb is told nothing.
 struct verdict error_of_reply(struct text *line, const struct reply *reply);
 
-// Whether the standard of retryable reads names this code.
-bool is_retryable_code(int32_t code);
+// Whether a server says by this code that it is no primary, or no longer one, or shuts down (SDAM, "Determining if an error is a state change error").
+bool is_state_change(int32_t code);
 
 #endif

@@ -48,7 +48,21 @@ void handshake_again(struct handshake *shake, struct conn *conn, const struct he
     reply_free(&reply);
 }
 
-void handshake_first(struct handshake *shake, struct conn *conn, const struct hello *hello, const char *address) {
+static bool secure(struct handshake *shake, struct sock *sock, const struct tls_context *tls, const char *address) {
+    const char *why = NULL;
+    enum net_fault fault = tls_begin(sock, tls, address, &why);
+    if (fault == NET_FINE) return true;
+    if (fault != NET_NO_TLS) {
+        fail(shake, fault, "TLS");
+        return false;
+    }
+    shake->network = true;
+    shake->fault = fault;
+    error_of_tls(&shake->text, why);
+    return false;
+}
+
+void handshake_first(struct handshake *shake, struct conn *conn, const struct hello *hello, const struct tls_context *tls, const char *address) {
     conn->form = hello->load_balanced ? AS_MESSAGE : AS_QUERY;
     begin(shake);
     enum net_fault fault = sock_connect(&conn->sock, address);
@@ -56,6 +70,7 @@ void handshake_first(struct handshake *shake, struct conn *conn, const struct he
         fail(shake, fault, "connect");
         return;
     }
+    if (tls && !secure(shake, &conn->sock, tls, address)) return;
     handshake_again(shake, conn, hello);
     if (shake->reply.wire >= WIRE_OF_OP_MSG) conn->form = AS_MESSAGE;
 }

@@ -4,6 +4,7 @@
 
 #include "error.h"
 #include "hello.h"
+#include "tls.h"
 
 // What a hello came to: where it is `ok` the text has the fields of the reply, each as ` NAME=VALUE`, and else an error.
 struct handshake {
@@ -20,7 +21,7 @@ struct handshake {
 // Sends the hello where there is one, and reads the reply to it, or the next reply.
 void handshake_again(struct handshake *shake, struct conn *conn, const struct hello *hello);
 
-// Connects, and greets the server for the first time; from then on commands have the form that the server understands.
-void handshake_first(struct handshake *shake, struct conn *conn, const struct hello *hello, const char *address);
+// Connects, begins TLS where there is a context for it, and greets the server for the first time; from then on commands have the form that it understands.
+void handshake_first(struct handshake *shake, struct conn *conn, const struct hello *hello, const struct tls_context *tls, const char *address);
 
 #endif

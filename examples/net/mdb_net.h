@@ -39,6 +39,7 @@ typedef enum mdb_net_code {
     MDB_NET_COMMAND,   /* the server answered that the command failed: `server_code` */
     MDB_NET_CONCERN,   /* it was done, but not as far as its write concern asks: `server_code` */
     MDB_NET_WRITES,    /* some of its writes failed: `server_code` of the first one; the reply says which */
+    MDB_NET_AUTH,      /* the server does not take the user, or does not know the password itself */
     MDB_NET_INTERNAL   /* libmdb refused a step that this library made: a fault of this library */
 } mdb_net_code;
 
@@ -91,10 +92,14 @@ typedef struct mdb_net_reply {
 
 void mdb_net_reply_free(mdb_net_reply *reply);
 
-/* read preference */
+/* read preference ("Server Selection") */
 enum {
-    MDB_NET_PRIMARY = 0, /* a server to which can be written */
-    MDB_NET_ANY          /* any that holds data, of those that are nearest (`nearest`) */
+    MDB_NET_DEFAULT = 0, /* for a command that reads that of the connection string, for any other MDB_NET_PRIMARY */
+    MDB_NET_PRIMARY,
+    MDB_NET_PRIMARY_PREFERRED,
+    MDB_NET_SECONDARY,
+    MDB_NET_SECONDARY_PREFERRED,
+    MDB_NET_NEAREST
 };
 
 /* By this another thread ends a command; of one command at a time. Once that was done it ends each command that is given it. */

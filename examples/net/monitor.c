@@ -41,7 +41,7 @@ static void run_check(struct monitor *m, const mdb_check *check) {
     };
     memcpy(hello.process, check->process, sizeof hello.process);
     m->conn.sock.deadline = deadline_in(check->timeout);
-    if (hello.first) handshake_first(&m->shake, &m->conn, &hello, m->address);
+    if (hello.first) handshake_first(&m->shake, &m->conn, &hello, m->client->tls, m->address);
     else handshake_again(&m->shake, &m->conn, check->action == MDB_CHECK_READ ? NULL : &hello);
 }
 

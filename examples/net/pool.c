@@ -139,9 +139,9 @@ void pool_fact(client_t *client, const mdb_fact *fact) {
     if (fact->kind == MDB_FACT_POOL) pool_event(client, fact);
 }
 
-void pool_blame(client_t *client, const mdb_connection *name, mdb_net_code why) {
+void pool_blame(client_t *client, const mdb_connection *name, const struct cause *cause) {
     struct waiter *waiter = by_name(client, name);
-    if (waiter) waiter->why = why;
+    if (waiter) waiter->cause = *cause;
 }
 
 void pool_interrupt_all(client_t *client) {
@@ -174,7 +174,7 @@ mdb_net_code limit_over(const client_t *client, const struct limit *limit) {
 static void waiter_begin(client_t *client, struct waiter *waiter, const char *address, mdb_net_cancel *cancel) {
     uint64_t milliseconds = (clock_now() - client->began) / MILLISECOND;
     long most = client->options.wait;
-    *waiter = (struct waiter){ .party = ++client->last_party, .address = address, .why = MDB_NET_NETWORK };
+    *waiter = (struct waiter){ .party = ++client->last_party, .address = address, .cause = { .code = MDB_NET_NETWORK } };
     waiter->due = most > 0 ? client->began + (milliseconds + (uint64_t)most + 1) * MILLISECOND : NO_DEADLINE;
     condition_init(&waiter->news);
     table_add(&client->waiters, &waiter->by_party, waiter->party);
@@ -209,12 +209,13 @@ static mdb_net_code code_of(const client_t *client, const mdb_reply *reply, cons
     if (over) return over;
     if (reply->kind != MDB_ENDED) return client->failed ? client->failed : client->stopping ? MDB_NET_CLOSED : MDB_NET_CLEARED;
     if (reply->why == MDB_END_CLOSED && client->stopping) return MDB_NET_CLOSED;
-    if (reply->why == MDB_END_FAILED) return waiter->why;
+    if (reply->why == MDB_END_FAILED) return waiter->cause.code;
     return reply->why == MDB_END_TIMED_OUT ? MDB_NET_TIMED_OUT : MDB_NET_CLEARED;
 }
 
 mdb_net_code check_out(client_t *client, const char *address, const struct limit *limit, struct checked_out *out) {
     struct waiter waiter;
+    *out = (struct checked_out){ .pooled = NULL };
     client_lock(client);
     mdb_net_code over = limit_over(client, limit);
     if (over == MDB_NET_OK) {
@@ -225,6 +226,7 @@ mdb_net_code check_out(client_t *client, const char *address, const struct limit
         waiter_end(client, &waiter, limit->cancel);
         out->party = waiter.party;
         out->pooled = reply.kind == MDB_POOLED ? pooled_find(client, &(mdb_connection){ reply.pool, reply.id }) : NULL;
+        out->cause = waiter.cause;
         over = code_of(client, &reply, &waiter, over);
     }
     client_unlock(client);

@@ -16,6 +16,13 @@ struct pooled {
     struct conn conn;
 };
 
+// Why a connection could not be established, as its caller hears it.
+struct cause {
+    mdb_net_code code;
+    int32_t server_code; // a server's number of the error, 0 where it told none
+    char text[MDB_NET_TEXT];
+};
+
 // A caller of a check-out who waits.
 struct waiter {
     struct node by_party, by_name;
@@ -26,7 +33,7 @@ struct waiter {
     bool told;    // its connection is ready, or its request ended
     uint64_t due; // when a caller has waited for too long
     const char *address;
-    mdb_net_code why; // of a connection that could not be established
+    struct cause cause;
     pthread_cond_t news;
 };
 
@@ -43,6 +50,7 @@ mdb_net_code limit_over(const client_t *client, const struct limit *limit);
 struct checked_out {
     uint32_t party;
     struct pooled *pooled;
+    struct cause cause; // where it failed
 };
 
 // Asks for a connection to the server, and sleeps until the request has one, has ended or is over. Not under the lock.
@@ -61,7 +69,7 @@ struct pooled *pooled_find(client_t *client, const mdb_connection *name);
 void pooled_add(client_t *client, struct pooled *pooled, const mdb_connection *name, int worker);
 
 // Why the connection could not be established, for the caller to whom it was granted; before libmdb is told.
-void pool_blame(client_t *client, const mdb_connection *name, mdb_net_code why);
+void pool_blame(client_t *client, const mdb_connection *name, const struct cause *cause);
 
 // Shuts the sockets that parties hold, so that operations end, and wakes those who wait.
 void pool_interrupt_all(client_t *client);

@@ -31,7 +31,7 @@ static void measure(struct monitor *m, bool *hello_known) {
     struct hello hello = { .first = first, .legacy = first || !*hello_known, .asks = first, .app = m->client->options.app };
     m->rtt_conn.sock.deadline = deadline_in(m->client->options.connect);
     if (first) {
-        handshake_first(&m->rtt_shake, &m->rtt_conn, &hello, m->address);
+        handshake_first(&m->rtt_shake, &m->rtt_conn, &hello, m->client->tls, m->address);
         *hello_known = m->rtt_shake.reply.hello_known;
     } else {
         handshake_again(&m->rtt_shake, &m->rtt_conn, &hello);

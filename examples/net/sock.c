@@ -1,5 +1,6 @@
 #include "sock.h"
 #include "address.h"
+#include "tls.h"
 #include <errno.h>
 #include <netdb.h>
 #include <netinet/in.h>
@@ -31,7 +32,7 @@ static enum net_fault fault_of(int error, enum net_fault other) {
     }
 }
 
-static enum net_fault await(const struct sock *sock, short events, uint64_t deadline) {
+static enum net_fault await_until(const struct sock *sock, short events, uint64_t deadline) {
     for (;;) {
         struct pollfd waits[2] = { { .fd = sock->fd, .events = events }, { .fd = sock->cancel, .events = POLLIN } };
         int ready = poll(waits, 2, left(deadline));
@@ -41,6 +42,8 @@ static enum net_fault await(const struct sock *sock, short events, uint64_t dead
         if (ready == 0 && left(deadline) == 0) return NET_TIMED_OUT;
     }
 }
+
+enum net_fault sock_await(const struct sock *sock, short events) { return await_until(sock, events, sock->deadline); }
 
 static void set_options(int fd) {
     int on = 1, idle = KEEP_IDLE, interval = KEEP_INTERVAL, count = KEEP_COUNT;
@@ -62,7 +65,7 @@ static enum net_fault connect_one(struct sock *sock, const struct addrinfo *to, 
     socklen_t size = sizeof error;
     enum net_fault fault = NET_FINE;
     if (connect(sock->fd, to->ai_addr, to->ai_addrlen) < 0) {
-        fault = errno == EINPROGRESS ? await(sock, POLLOUT, deadline) : refused(errno, to->ai_family);
+        fault = errno == EINPROGRESS ? await_until(sock, POLLOUT, deadline) : refused(errno, to->ai_family);
         if (!fault && getsockopt(sock->fd, SOL_SOCKET, SO_ERROR, &error, &size) < 0) error = errno;
         if (!fault && error) fault = refused(error, to->ai_family);
     }
@@ -99,6 +102,7 @@ enum net_fault sock_connect(struct sock *sock, const char *address) {
 }
 
 void sock_close(struct sock *sock) {
+    tls_end(sock);
     if (sock->fd >= 0) close(sock->fd);
     sock->fd = -1;
 }
@@ -120,6 +124,7 @@ static void use_up(struct iovec **parts, int *count, size_t sent) {
 }
 
 enum net_fault sock_write(struct sock *sock, struct iovec *parts, int count) {
+    if (sock->tls) return tls_write(sock, parts, count);
     while (count > 0) {
         struct msghdr message = { .msg_iov = parts, .msg_iovlen = (size_t)count };
         ssize_t sent = sendmsg(sock->fd, &message, MSG_NOSIGNAL);
@@ -129,13 +134,14 @@ enum net_fault sock_write(struct sock *sock, struct iovec *parts, int count) {
         }
         if (errno == EINTR) continue;
         if (errno != EAGAIN) return fault_of(errno, NET_BROKEN);
-        enum net_fault fault = await(sock, POLLOUT, sock->deadline);
+        enum net_fault fault = sock_await(sock, POLLOUT);
         if (fault) return fault;
     }
     return NET_FINE;
 }
 
 enum net_fault sock_read(struct sock *sock, uint8_t *bytes, size_t length) {
+    if (sock->tls) return tls_read(sock, bytes, length);
     while (length > 0) {
         ssize_t got = recv(sock->fd, bytes, length, 0);
         if (got > 0) {
@@ -146,14 +152,14 @@ enum net_fault sock_read(struct sock *sock, uint8_t *bytes, size_t length) {
         if (got == 0) return NET_BROKEN;
         if (errno == EINTR) continue;
         if (errno != EAGAIN) return fault_of(errno, NET_BROKEN);
-        enum net_fault fault = await(sock, POLLIN, sock->deadline);
+        enum net_fault fault = sock_await(sock, POLLIN);
         if (fault) return fault;
     }
     return NET_FINE;
 }
 
 const char *fault_text(enum net_fault fault) {
-    static const char *const texts[] = { "fine",           "timed out",     "cancelled", "not connected", "connection broken", "malformed message",
-                                         "no socket here", "no memory here" };
+    static const char *const texts[] = { "fine",           "timed out",      "cancelled", "not connected", "connection broken", "malformed message",
+                                         "no socket here", "no memory here", "no TLS" };
     return texts[fault];
 }

@@ -146,6 +146,7 @@ bool srv_resolve(struct lookup *lookup, struct options *options, struct text *wr
     if (!accept_hosts(options->srv_host, lookup, MDB_STRANGERS_REFUSE, wrong) || !read_txt(lookup, wrong)) return false;
     // What the connection string says counts before the TXT record.
     if (!options->set[0]) strcpy(options->set, from_txt->set);
+    if (!options->who.source[0]) strcpy(options->who.source, from_txt->who.source);
     if (!options->load_balanced_said) options->load_balanced = from_txt->load_balanced;
     memcpy(options->seeds, lookup->hosts, sizeof options->seeds);
     options->seed_count = lookup->count;

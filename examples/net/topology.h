@@ -13,18 +13,24 @@ mdb_status topology_address(mdb_slot *slot, size_t place, char address[ADDRESS_R
 
 // What is wanted of a server.
 struct wanted {
-    uint32_t preference; // MDB_NET_PRIMARY or MDB_NET_ANY
+    uint32_t preference; // MDB_NET_PRIMARY ..
+    const char *tags;    // sets of tags as options have them, empty for none
+    const char *avoided; // the address of one that is taken only where no other fits, empty for none
     uint64_t near;       // by how many milliseconds its round trip may be longer than the shortest one
     uint32_t turn;       // which of those that fit, counted round
 };
 
-// A server that was chosen, and the mode of `$readPreference` by which a command that reads says to it that it may be no primary, NULL where it need not.
+// A server that was chosen.
 struct chosen {
     char address[ADDRESS_ROOM];
-    const char *mode;
+    const char *mode;  // of `$readPreference`, by which a command that reads says where it may go, NULL where it need not
+    uint32_t kind;     // MDB_SERVER_
+    int32_t wire;      // its greatest wire version
+    bool has_sessions; // it and all others that hold data keep sessions
+    uint64_t minutes;  // for how long they do, 0 for no bound that is known
 };
 
-// Chooses a server (server selection, "Network Topology", by type and latency). MDB_NO_ENTRY where there is none.
+// Chooses a server (server selection, "Network Topology", by type, tags and latency). MDB_NO_ENTRY where there is none.
 mdb_status topology_choose(mdb_slot *slot, const struct wanted *wanted, struct chosen *chosen);
 
 #endif

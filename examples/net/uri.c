@@ -1,4 +1,6 @@
 #include "options.h"
+#include "mdb_net.h"
+#include "scram.h"
 #include <stdlib.h>
 #include <string.h>
 #include <strings.h>
@@ -6,10 +8,11 @@
 enum { LEAST_HEARTBEAT = 500, POOL_MOST = 65535, PAIRS_ROOM = 4096 };
 
 void options_begin(struct options *options) {
-    *options = (struct options){ .max = -1, .min = -1, .connecting = -1, .idle = -1, .wait = -1, .retry_reads = true };
+    *options = (struct options){ .max = -1, .min = -1, .connecting = -1, .idle = -1, .wait = -1, .retry_reads = true, .retry_writes = true };
     options->heartbeat = options->connect = 10000;
     options->selection = 30000;
     options->near = 15;
+    options->preference = MDB_NET_PRIMARY;
     options->notes = TEXT_IN(options->notes_room);
 }
 
@@ -35,7 +38,7 @@ static bool number_in(const char *value, uint64_t least, uint64_t most, long *ou
     return true;
 }
 
-static bool flag(const char *value, bool *out) {
+bool flag_read(const char *value, bool *out) {
     *out = !strcmp(value, "true");
     return *out || !strcmp(value, "false");
 }
@@ -59,23 +62,15 @@ static bool set_max(struct options *options, const char *value) {
     return true;
 }
 
-// There is none here: what asks for it is refused, and what asks for none is well.
-static bool no_tls(const char *value) {
-    bool wanted = true;
-    return flag(value, &wanted) && !wanted;
-}
-
 // What a connection string may say about the topology.
 static bool set_topology(struct options *options, const char *name, const char *value, bool *known) {
     *known = true;
     if (!strcasecmp(name, "replicaSet")) return set_name(options, value);
-    if (!strcasecmp(name, "directConnection")) return flag(value, &options->direct);
-    if (!strcasecmp(name, "loadBalanced")) return flag(value, &options->load_balanced) && (options->load_balanced_said = true);
+    if (!strcasecmp(name, "directConnection")) return flag_read(value, &options->direct);
+    if (!strcasecmp(name, "loadBalanced")) return flag_read(value, &options->load_balanced) && (options->load_balanced_said = true);
     if (!strcasecmp(name, "heartbeatFrequencyMS")) return number(value, LEAST_HEARTBEAT, &options->heartbeat);
     if (!strcasecmp(name, "localThresholdMS")) return number(value, 0, &options->near);
     if (!strcasecmp(name, "appName")) return set_app(options, value);
-    if (!strcasecmp(name, "tls") || !strcasecmp(name, "ssl")) return no_tls(value);
-    if (!strcasecmp(name, "authSource")) return true; // means nothing without a user
     return *known = false;
 }
 
@@ -86,7 +81,6 @@ static bool set_pool(struct options *options, const char *name, const char *valu
     if (!strcasecmp(name, "serverSelectionTimeoutMS")) return number(value, 1, &options->selection);
     if (!strcasecmp(name, "socketTimeoutMS")) return number(value, 0, &options->socket);
     if (!strcasecmp(name, "timeoutMS")) return number(value, 0, &options->whole);
-    if (!strcasecmp(name, "retryReads")) return flag(value, &options->retry_reads);
     if (!strcasecmp(name, "maxPoolSize")) return set_max(options, value);
     if (!strcasecmp(name, "minPoolSize")) return number_in(value, 0, POOL_MOST, &options->min);
     if (!strcasecmp(name, "maxConnecting")) return number_in(value, 1, POOL_MOST, &options->connecting);
@@ -96,11 +90,11 @@ static bool set_pool(struct options *options, const char *name, const char *valu
 }
 
 static bool option_set(struct options *options, const char *name, const char *value) {
-    bool known;
-    bool well = set_topology(options, name, value, &known);
-    if (known) return well;
-    well = set_pool(options, name, value, &known);
-    if (known) return well;
+    static options_part *const parts[] = { set_topology, set_pool, secure_part, reads_part };
+    for (size_t i = 0; i < sizeof parts / sizeof *parts; i++) {
+        bool known, well = parts[i](options, name, value, &known);
+        if (known) return well;
+    }
     text_add(&options->notes, "%s%s", options->notes.length ? ", " : "", name);
     return true;
 }
@@ -174,17 +168,63 @@ bool options_read(struct options *options, const char *pairs, struct text *wrong
     return true;
 }
 
+// A user and a password, each with %-escapes where it has a character that divides.
+static bool read_user(struct options *options, const char *at, size_t length) {
+    char copy[3 * (USER_ROOM + USER_ROOM)];
+    if (length >= sizeof copy) return false;
+    memcpy(copy, at, length);
+    copy[length] = 0;
+    char *password = strchr(copy, ':');
+    if (!password) return false;
+    *password++ = 0;
+    if (strpbrk(copy, "@/?#[]") || strpbrk(password, ":@/?#[]") || !decode(copy) || !decode(password)) return false;
+    if (!*copy || strlen(copy) >= USER_ROOM || strlen(password) >= USER_ROOM) return false;
+    strcpy(options->who.user, copy);
+    strcpy(options->who.password, password);
+    return true;
+}
+
+// The database behind the hosts, up to the options.
+static bool read_path(struct options *options, const char *path) {
+    size_t length = strcspn(path, "?");
+    if (length >= sizeof options->path) return false;
+    memcpy(options->path, path, length);
+    options->path[length] = 0;
+    return decode(options->path) && (!options->path[0] || is_name(options->path, strlen(options->path)));
+}
+
+// What goes with what, once all options are read.
+static const char *contradiction(const struct options *options, bool srv) {
+    if (srv && options->direct) return "directConnection goes with no list of seeds";
+    if (!options->who.user[0]) return NULL;
+    if (!scram_is_here()) return "built without OpenSSL: there is no SCRAM, and a user cannot prove who it is";
+    for (const char *at = options->who.password; *at; at++) {
+        if (*at < 32 || *at > 126) return "the password has other characters than those of ASCII that are printed";
+    }
+    return NULL;
+}
+
 bool uri_read(struct options *options, const char *uri, struct text *wrong) {
     bool srv = !strncmp(uri, "mongodb+srv://", 14);
     if (!srv && strncmp(uri, "mongodb://", 10) != 0) return text_add(wrong, "the scheme is mongodb:// or mongodb+srv://"), false;
     const char *hosts = uri + (srv ? 14 : 10);
     size_t length = strcspn(hosts, "/?");
-    if (memchr(hosts, '@', length)) return text_add(wrong, "a user and a password are not supported"), false;
+    const char *at = memrchr(hosts, '@', length), *rest = hosts + length;
+    if (at && !read_user(options, hosts, (size_t)(at - hosts))) return text_add(wrong, "bad user or password"), false;
+    if (at) length -= (size_t)(at + 1 - hosts), hosts = at + 1;
     bool well = srv ? read_srv_host(options, hosts, length) : read_hosts(options, hosts, length);
     if (!well) return text_add(wrong, "bad hosts"), false;
-    const char *pairs = strchr(hosts + length, '?');
+    if (*rest == '/' && !read_path(options, rest + 1)) return text_add(wrong, "bad name of a database"), false;
+    options->tls.on = srv;
+    const char *pairs = strchr(rest, '?');
     if (pairs && !options_read(options, pairs + 1, wrong)) return false;
-    return !(srv && options->direct) || (text_add(wrong, "directConnection goes with no list of seeds"), false);
+    const char *against = contradiction(options, srv);
+    return !against || (text_add(wrong, "%s", against), false);
+}
+
+void options_end(struct options *options) {
+    const char *source = options->path[0] ? options->path : "admin";
+    if (!options->who.source[0]) strcpy(options->who.source, source);
 }
 
 static void line_add(struct text *line, const char *name, long value) {

@@ -1,4 +1,5 @@
 #include "worker.h"
+#include "auth.h"
 #include <stdlib.h>
 #include <string.h>
 #include <sys/eventfd.h>
@@ -84,40 +85,79 @@ static void established(struct worker *worker, const mdb_connection *name, struc
     driver_step(client, established_step, &step);
 }
 
-static void failed(struct worker *worker, const mdb_connection *name, const char *error) {
+// Why a connection was not made.
+struct failure {
+    bool greeted; // the server had answered the hello before
+    struct cause cause;
+    char line[ERROR_ROOM]; // the error, as a line has it
+};
+
+static void failed(struct worker *worker, const mdb_connection *name, const struct failure *failure) {
     client_t *client = worker->client;
-    enum net_fault fault = worker->shake.fault;
-    char room[ERROR_ROOM];
+    const char *service = worker->shake.reply.service;
+    char room[ERROR_ROOM + 64];
     struct text outcome = TEXT_IN(room);
     struct step step = { .name = *name, .text = room };
     struct pooled *found = pooled_find(client, name);
-    text_add(&outcome, "pre %s", error);
+    if (failure->greeted && service[0]) text_add(&outcome, "post sid=%s %s", service, failure->line);
+    else text_add(&outcome, "%s %s", failure->greeted ? "post" : "pre", failure->line);
     if (!found) return;
     found->worker = -1;
-    if (is_shortage(fault)) {
-        client->counts.shortages++;
-        pool_blame(client, name, fault == NET_NO_FILES ? MDB_NET_NO_FILES : MDB_NET_NO_MEMORY);
-    }
+    if (failure->cause.code == MDB_NET_NO_FILES || failure->cause.code == MDB_NET_NO_MEMORY) client->counts.shortages++;
+    pool_blame(client, name, &failure->cause);
     driver_step(client, failed_step, &step);
+}
+
+// Proves who the client is, where it has a user.
+static bool prove(struct worker *worker, struct conn *conn, struct failure *failure) {
+    client_t *client = worker->client;
+    struct text line = TEXT_IN(failure->line);
+    struct scram_keys keys;
+    if (!client->options.who.user[0]) return true;
+    client_lock(client);
+    keys = client->keys;
+    client_unlock(client);
+    struct auth_result result = auth_run(conn, &client->options.who, &keys, &line);
+    client_lock(client);
+    if (keys.set) client->keys = keys;
+    client_unlock(client);
+    bool heard = result.code == MDB_NET_AUTH || result.code == MDB_NET_NO_FILES || result.code == MDB_NET_NO_MEMORY;
+    failure->greeted = true;
+    failure->cause.code = heard ? result.code : MDB_NET_NETWORK;
+    failure->cause.server_code = result.server_code;
+    return result.code == MDB_NET_OK;
+}
+
+// Connects, greets the server, and proves who the client is.
+static bool make(struct worker *worker, struct conn *conn, const char *address, struct failure *failure) {
+    client_t *client = worker->client;
+    const struct options *options = &client->options;
+    struct handshake *shake = &worker->shake;
+    struct text line = TEXT_IN(failure->line);
+    struct hello hello = {
+        .load_balanced = options->load_balanced, .first = true, .legacy = !options->load_balanced, .asks = !options->load_balanced, .app = options->app
+    };
+    conn->sock.cancel = worker->cancel;
+    conn->sock.deadline = deadline_in(options->connect);
+    handshake_first(shake, conn, &hello, client->tls, address);
+    failure->cause.code = is_shortage(shake->fault) ? code_of_fault(shake->fault) : MDB_NET_NETWORK;
+    if (!shake->ok) text_add(&line, "%s", shake->room);
+    else if (options->load_balanced && !shake->reply.has_service) text_add(&line, "other msg=a load balancer that names no service");
+    else return prove(worker, conn, failure);
+    return false;
 }
 
 static void establish(struct worker *worker, const mdb_connection *name, const char *address) {
     client_t *client = worker->client;
-    const struct options *options = &client->options;
-    struct handshake *shake = &worker->shake;
     struct conn conn = CONN_CLOSED;
-    struct hello hello = {
-        .load_balanced = options->load_balanced, .first = true, .legacy = !options->load_balanced, .asks = !options->load_balanced, .app = options->app
-    };
-    conn.sock.cancel = worker->cancel;
-    conn.sock.deadline = deadline_in(options->connect);
-    handshake_first(shake, &conn, &hello, address);
-    bool nameless = shake->ok && options->load_balanced && !shake->reply.has_service;
-    if (!shake->ok || nameless) sock_close(&conn.sock);
+    struct failure failure = { .greeted = false };
+    bool made = make(worker, &conn, address, &failure);
+    struct text heard = TEXT_IN(failure.cause.text);
+    text_add_plain(&heard, failure.line, strlen(failure.line), sizeof failure.cause.text - 1);
+    if (!made) sock_close(&conn.sock);
     client_lock(client);
-    if (nameless) failed(worker, name, "other msg=a load balancer that names no service");
-    else if (!shake->ok) failed(worker, name, shake->room);
-    else established(worker, name, &conn);
+    if (made) established(worker, name, &conn);
+    else failed(worker, name, &failure);
     client->resting++;
     client_unlock(client);
 }
