@@ -1,8 +1,10 @@
 // For checks/live/mended.py: makes the calls of mdb_net.h that its standard input asks for, on one client for each connection string of the command line.
 //
-//   run CLIENT COMMAND [timeout=MS] [cancel=MS] [stop=MS] [any] [read]    runs {COMMAND: 1}; cancelled, or its client stopped, after so many milliseconds
-//   stop CLIENT THREADS                                                   as many threads stop the client at once
-//   open URI                                                              a client is opened and freed
+//   run CLIENT COMMAND [timeout=MS] [cancel=MS] [stop=MS] [any] [once] [tags=SETS]   runs {COMMAND: "things"}; cancelled, or its client stopped, after so many ms
+//   fill CLIENT COUNT                                                 inserts as many documents into `things`, each by a command, all of one session
+//   walk CLIENT BATCH MOST                                            reads at most so many of them by a cursor; `reply` is how many there were
+//   stop CLIENT THREADS                                               as many threads stop the client at once
+//   open URI                                                          a client is opened and freed
 //
 // Each line is answered by one: `CODE sent=0 changed=0 retried=0 server=0 ms=N reply=BYTES TEXT`.
 #include <bson/bson.h>
@@ -53,14 +55,15 @@ static void run(mdb_net_client *client, const char *name, char *words) {
         if (!strncmp(word, "cancel=", 7) && mdb_net_cancel_new(client, &meanwhile.cancel) != MDB_NET_OK) abort();
         if (!strncmp(word, "stop=", 5)) meanwhile.stopped = client;
         if (!strcmp(word, "any")) options.preference = MDB_NET_NEAREST;
-        if (!strcmp(word, "read")) options.is_read = true;
+        if (!strcmp(word, "once")) options.once = true;
+        if (!strncmp(word, "tags=", 5)) options.tags = value;
     }
     options.cancel = meanwhile.cancel;
     pthread_t thread;
     bson_t command = BSON_INITIALIZER;
     mdb_net_reply reply;
     mdb_net_err err;
-    bson_append_int32(&command, name, -1, 1);
+    bson_append_utf8(&command, name, -1, "things", -1);
     if (meanwhile.after && pthread_create(&thread, NULL, meddle, &meanwhile)) abort();
     unsigned long began = milliseconds();
     mdb_net_command(client, "test", (mdb_net_document){ bson_get_data(&command), command.len }, &options, &reply, &err);
@@ -69,6 +72,37 @@ static void run(mdb_net_client *client, const char *name, char *words) {
     mdb_net_cancel_free(meanwhile.cancel);
     mdb_net_reply_free(&reply);
     bson_destroy(&command);
+}
+
+// The whole of a command, as what it is.
+static mdb_net_document whole(const bson_t *command) { return (mdb_net_document){ bson_get_data(command), command->len }; }
+
+static void fill(mdb_net_client *client, int count) {
+    mdb_net_session *session;
+    mdb_net_err err = { .code = mdb_net_session_new(client, &session) };
+    unsigned long began = milliseconds();
+    int done = 0;
+    for (; done < count && err.code == MDB_NET_OK; done++) {
+        bson_t *command = BCON_NEW("insert", "things", "documents", "[", "{", "_id", BCON_INT32(done), "}", "]");
+        mdb_net_command(client, "test", whole(command), &(mdb_net_command_options){ .session = session }, NULL, &err);
+        bson_destroy(command);
+    }
+    mdb_net_session_free(session);
+    tell(&err, milliseconds() - began, (size_t)done);
+}
+
+static void walk(mdb_net_client *client, int batch, int most) {
+    mdb_net_cursor *cursor;
+    mdb_net_document document;
+    mdb_net_err err;
+    unsigned long began = milliseconds();
+    int count = 0;
+    bson_t *command = BCON_NEW("find", "things", "filter", "{", "}", "batchSize", BCON_INT32(batch));
+    mdb_net_cursor_open(client, "test", whole(command), &(mdb_net_command_options){ .batch = batch, .timeout = 3000 }, &cursor, &err);
+    bson_destroy(command);
+    while (cursor && count < most && mdb_net_cursor_next(cursor, &document, &err) == MDB_NET_OK && document.at) count++;
+    mdb_net_cursor_free(cursor);
+    tell(&err, milliseconds() - began, (size_t)count);
 }
 
 static void *stop(void *client) {
@@ -104,10 +138,12 @@ int main(int count, char **words) {
         if (mdb_net_open(words[i], NULL, &clients[i - 1], &err) != MDB_NET_OK) return fprintf(stderr, "%s\n", err.text), 1;
     }
     while (fgets(line, sizeof line, stdin)) {
-        int client = 0, used = 0, threads = 0;
+        int client = 0, used = 0, threads = 0, batch = 0;
         line[strcspn(line, "\n")] = 0;
         if (!strncmp(line, "open ", 5)) open_and_free(line + 5);
         else if (sscanf(line, "stop %d %d", &client, &threads) == 2 && client < count - 1) stop_at_once(clients[client], threads);
+        else if (sscanf(line, "fill %d %d", &client, &threads) == 2 && client < count - 1) fill(clients[client], threads);
+        else if (sscanf(line, "walk %d %d %d", &client, &batch, &threads) == 3 && client < count - 1) walk(clients[client], batch, threads);
         else if (sscanf(line, "run %d %63s%n", &client, name, &used) == 2 && client < count - 1) run(clients[client], name, line + used);
     }
     for (int i = 0; i < CLIENTS; i++) mdb_net_free(clients[i]);

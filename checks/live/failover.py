@@ -1,11 +1,11 @@
 #!/usr/bin/env python3
 """A failover under load: three members of a replica set, 32 threads that insert, which takes 10 ms, the primary killed, another one elected, the old one back and elected again.
 
-usage: checks/live/failover.py [--program MDB_LIVE] [--auditor MDB_AUDITOR] [--python PYTHON] [--threads N] [--log FILE]
+usage: checks/live/failover.py [--program MDB_LIVE] [--auditor MDB_AUDITOR] [--python PYTHON] [--threads N] [--log FILE] [--retries]
 
 Writes ten lines of numbers. They come from mdb_live, and from its log, which is read here: each grant against the clears before it, each error against the
 generation of its connection. The auditor says whether the whole log is legal. Status 0 where no stale connection was granted, no late error cleared a pool,
-the log is legal, and mdb_live ended well.
+the log is legal, and mdb_live ended well. Inserts are tried once, with --retries as the standard of retryable writes has it.
 """
 import argparse
 import os
@@ -106,7 +106,7 @@ def play(given, log):
             servers.stdin.flush()
             servers.stdout.readline()
         if command == 'elect 0' and writing is None:
-            uri = 'mongodb://%s/?replicaSet=rs&heartbeatFrequencyMS=500&connectTimeoutMS=1000&maxPoolSize=20&minPoolSize=2&waitQueueTimeoutMS=2000' % seeds
+            uri = 'mongodb://%s/?replicaSet=rs&heartbeatFrequencyMS=500&connectTimeoutMS=1000&maxPoolSize=20&minPoolSize=2&waitQueueTimeoutMS=2000&retryWrites=%s' % (seeds, str(given.retries).lower())
             words = [given.program, uri, '100', '--load', str(given.threads), '--log', log]
             writing = Writing(subprocess.Popen(words, stdout=subprocess.PIPE, stderr=subprocess.STDOUT, text=True))
     writing.program.terminate()
@@ -124,6 +124,7 @@ def main():
     parser.add_argument('--python', default='/usr/bin/python3')
     parser.add_argument('--threads', type=int, default=32)
     parser.add_argument('--log')
+    parser.add_argument('--retries', action='store_true')
     given = parser.parse_args()
     with tempfile.TemporaryDirectory() as folder:
         log = given.log or os.path.join(folder, 'log')

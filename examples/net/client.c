@@ -3,6 +3,7 @@
 #include "keeper.h"
 #include "monitor.h"
 #include "pool.h"
+#include "session.h"
 #include "srv.h"
 #include "tls.h"
 #include <stdio.h>
@@ -23,6 +24,7 @@ static void destroy(client_t *client) {
     pthread_cond_t *const conditions[] = { &client->changed, &client->jobs, &client->keeping, &client->left };
     mdb_close(&client->slot);
     pool_free(client);
+    sessions_free(client);
     table_free(&client->monitors);
     stream_end(&client->lines);
     stream_end(&client->log);
@@ -110,6 +112,9 @@ mdb_net_code mdb_net_stop(mdb_net_client *client) {
     client_lock(client);
     bool first = !client->ending;
     client->ending = true;
+    client_unlock(client);
+    if (first) sessions_end(client);
+    client_lock(client);
     if (first) wind_down(client);
     while (!client->ended && !first) client_wait(client, &client->left, NO_DEADLINE);
     client_unlock(client);

@@ -15,7 +15,9 @@ struct worker;
 struct pooled;
 struct waiter;
 struct lookup;
+struct server_session;
 
+enum { CLUSTER_ROOM = 512 };
 enum { LINE_ROOM = SEED_MOST * (ADDRESS_ROOM + 20) + 1024 }; // of the line of the topology, and of the one that opens
 
 struct mdb_net_client {
@@ -55,6 +57,10 @@ struct mdb_net_client {
     bool ending;         // a stop has begun
     mdb_net_code failed; // why it ended before, or OK
     struct stream lines, log;
+    struct server_session *sessions; // that nobody uses, the one that was used last in front
+    uint64_t cluster_time;           // the latest of the cluster's clock that a reply told, and its document
+    size_t cluster_length;
+    uint8_t cluster_document[CLUSTER_ROOM];
     uint64_t published; // how often libmdb had told of the topology when the last line was told
     char last_line[LINE_ROOM], line[LINE_ROOM];
     mdb_net_counts counts;

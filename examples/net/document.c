@@ -29,11 +29,15 @@ static void open_here(struct document *document) {
     put_number(document, 0, 4);
 }
 
+void document_length(uint8_t *bytes, size_t length) {
+    for (size_t i = 0; i < 4; i++) bytes[i] = (uint8_t)(length >> (8 * i));
+}
+
 static void close_here(struct document *document) {
     put_number(document, 0, 1);
     if (document->full || document->depth == 0) return;
     size_t begin = document->begins[--document->depth], length = document->length - begin;
-    for (size_t i = 0; i < 4; i++) document->bytes[begin + i] = (uint8_t)(length >> (8 * i));
+    document_length(document->bytes + begin, length);
 }
 
 void document_begin(struct document *document) {

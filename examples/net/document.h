@@ -33,4 +33,7 @@ void put_open(struct document *document, const char *name);
 void put_open_list(struct document *document, const char *name); // their names are "0", "1" and so on
 void put_close(struct document *document);
 
+// Writes the length of a document of so many bytes to its beginning.
+void document_length(uint8_t *bytes, size_t length);
+
 #endif

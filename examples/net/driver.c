@@ -67,6 +67,18 @@ mdb_status hosts_step(mdb_slot *slot, const mdb_at *at, const struct step *step,
     return mdb_hosts(slot, at, bytes_of(step->text), length_of(step->text), reply);
 }
 
+mdb_status cluster_time_step(mdb_slot *slot, const mdb_at *at, const struct step *step, mdb_reply *reply) {
+    return mdb_cluster_time(slot, at, step->nanos, reply);
+}
+
+mdb_status pin_step(mdb_slot *slot, const mdb_at *at, const struct step *step, mdb_reply *reply) { return mdb_pin(slot, at, step->number, reply); }
+
+mdb_status take_step(mdb_slot *slot, const mdb_at *at, const struct step *step, mdb_reply *reply) {
+    return mdb_take(slot, at, step->number, &step->name, reply);
+}
+
+mdb_status unpin_step(mdb_slot *slot, const mdb_at *at, const struct step *step, mdb_reply *reply) { return mdb_unpin(slot, at, &step->name, reply); }
+
 mdb_status stop_step(mdb_slot *slot, const mdb_at *at, const struct step *step, mdb_reply *reply) {
     (void)step;
     return mdb_stop(slot, at, reply);

@@ -67,6 +67,29 @@ static void find_inner(struct findings *found, const bson_iter_t *at, mdb_net_co
     }
 }
 
+static void read_time(struct verdict *told, const bson_iter_t *at) {
+    bson_iter_t inner;
+    uint32_t seconds = 0, count = 0;
+    if (!BSON_ITER_HOLDS_DOCUMENT(at) || !bson_iter_recurse(at, &inner) || !bson_iter_find(&inner, "clusterTime") || !BSON_ITER_HOLDS_TIMESTAMP(&inner)) return;
+    bson_iter_timestamp(&inner, &seconds, &count);
+    bson_iter_document(at, &told->time_length, &told->time_document);
+    told->time = (uint64_t)seconds << 32 | count;
+}
+
+static void read_cursor(struct cursor_reply *cursor, const bson_iter_t *at) {
+    bson_iter_t inner;
+    if (!BSON_ITER_HOLDS_DOCUMENT(at) || !bson_iter_recurse(at, &inner)) return;
+    while (bson_iter_next(&inner)) {
+        const char *key = bson_iter_key(&inner);
+        bool batch = (!strcmp(key, "firstBatch") || !strcmp(key, "nextBatch")) && BSON_ITER_HOLDS_ARRAY(&inner);
+        if (!strcmp(key, "id") && BSON_ITER_HOLDS_INT64(&inner)) cursor->id = bson_iter_int64(&inner), cursor->found = true;
+        if (batch) bson_iter_array(&inner, &cursor->length, &cursor->batch);
+        if (strcmp(key, "ns") || !BSON_ITER_HOLDS_UTF8(&inner)) continue;
+        const char *space = bson_iter_utf8(&inner, NULL), *name = strchr(space, '.');
+        if (name && strlen(name + 1) < sizeof cursor->collection) strcpy(cursor->collection, name + 1);
+    }
+}
+
 // Errors of write concern are errors of the command too: they may tell that the server is no longer the primary. Those of single writes are not.
 static void find_parts(struct findings *found, const bson_iter_t *at) {
     bson_iter_t first;
@@ -113,30 +136,34 @@ static void put_message(struct text *line, const struct findings *found) {
     text_add_plain(line, message, length, MESSAGE_BYTES);
 }
 
-static struct verdict spell(struct text *line, const struct findings *found) {
-    struct verdict verdict = { .code = found->kind ? found->kind : MDB_NET_COMMAND };
+static void spell(struct text *line, const struct findings *found, struct verdict *verdict) {
+    verdict->code = found->kind;
     double code = found->has_code ? number_of(&found->code) : -1;
-    if (code >= 0 && code <= INT32_MAX && code == (int32_t)code) text_add(line, "command.%d", verdict.server_code = (int32_t)code);
+    if (code >= 0 && code <= INT32_MAX && code == (int32_t)code) text_add(line, "command.%d", verdict->server_code = (int32_t)code);
     else text_add(line, "other");
-    if (found->has_labels) verdict.labels = put_labels(line, &found->labels);
+    if (found->has_labels) verdict->labels = put_labels(line, &found->labels);
     if (found->has_version) put_version(line, &found->version);
     put_message(line, found);
-    return verdict;
 }
 
 struct verdict error_of_reply(struct text *line, const struct reply *reply) {
     bson_t document;
     bson_iter_t at;
     struct findings found = { .fine = false };
+    struct verdict told = { .code = MDB_NET_OK };
     bool well = bson_init_static(&document, reply->document, reply->length) && bson_iter_init(&at, &document);
     while (well && bson_iter_next(&at)) {
+        const char *key = bson_iter_key(&at);
         find_one(&found, &at);
         find_parts(&found, &at);
+        if (!strcmp(key, "$clusterTime")) read_time(&told, &at);
+        if (!strcmp(key, "cursor")) read_cursor(&told.cursor, &at);
     }
     if (!well || at.err_off) {
         error_of_fault(line, NET_MALFORMED, "reply");
         return (struct verdict){ .code = MDB_NET_NETWORK };
     }
     if (!found.fine) found.kind = MDB_NET_COMMAND;
-    return found.kind ? spell(line, &found) : (struct verdict){ .code = MDB_NET_OK };
+    if (found.kind) spell(line, &found, &told);
+    return told;
 }

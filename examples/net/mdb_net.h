@@ -3,7 +3,7 @@
  * A program may have any number of clients. A client has threads of its own; any thread may use it. The library writes to no stream, ends no process, calls
  * nobody back and keeps nothing outside its clients: each error is answered, and what happens is told through `mdb_net_take`.
  *
- * Documents are BSON as bytes, of any library; times are in milliseconds. No authentication, no TLS, no compression, no sessions, no cursors. */
+ * Documents are BSON as bytes, of any library; times are in milliseconds. */
 #ifndef MDB_NET_H
 #define MDB_NET_H
 
@@ -108,17 +108,50 @@ mdb_net_code mdb_net_cancel_new(mdb_net_client *client, mdb_net_cancel **cancel)
 void mdb_net_cancel_now(mdb_net_cancel *cancel);
 void mdb_net_cancel_free(mdb_net_cancel *cancel); /* before its client */
 
+/* A session: commands that are given the same one are told apart by it at the servers. Of one thread at a time. Each command without one has its own
+ * while it runs. */
+typedef struct mdb_net_session mdb_net_session;
+mdb_net_code mdb_net_session_new(mdb_net_client *client, mdb_net_session **session);
+void mdb_net_session_free(mdb_net_session *session); /* before its client */
+
 typedef struct mdb_net_command_options {
     uint64_t timeout;    /* for all of it; 0 is `timeoutMS` of the connection string, and without that each part has its own bound */
-    uint32_t preference; /* MDB_NET_PRIMARY or MDB_NET_ANY */
-    bool is_read; /* it may be done twice: after an error that the standard of retryable reads names it is tried once more, where `retryReads` is not false */
-    mdb_net_cancel *cancel; /* NULL for none */
+    uint32_t preference; /* MDB_NET_DEFAULT .. */
+    const char *tags;    /* sets of tags that the server is to have, `dc:ny,rack:1`, with a semicolon between them: the first one that fits a server counts.
+                          * NULL with MDB_NET_DEFAULT for those of the connection string */
+    bool once;           /* as a command that the driver knows nothing of ("runCommand"): it is not tried again, and reads at the primary */
+    mdb_net_session *session; /* NULL for none */
+    mdb_net_cancel *cancel;   /* NULL for none */
+    int32_t batch;            /* of a cursor: how many documents `getMore` asks for, 0 as the server likes */
+    uint32_t await;           /* of a cursor that is tailable and awaits data: for how many milliseconds `getMore` may wait, 0 as the server likes */
 } mdb_net_command_options;
 
-/* Runs a command: chooses a server, checks a connection out, sends, reads the reply and checks the connection in. `$db` and `$readPreference` are added to
- * the document. `options` may be NULL. Each of `reply` and `err` may be NULL; a reply is there where a server told one: at OK, COMMAND, CONCERN and WRITES. */
+/* Runs a command: chooses a server, checks a connection out, sends, reads the reply and checks the connection in. `$db`, `$readPreference`, `lsid`,
+ * `txnNumber` and `$clusterTime` are added to the document, but those that it has. `options` may be NULL. Each of `reply` and `err` may be NULL; a reply is
+ * there where a server told one: at OK, COMMAND, CONCERN and WRITES.
+ *
+ * A command that the standards of retryable reads and writes name, and which changes at most one document by each statement, is tried once more after the
+ * errors that they name, on another server where one fits: reads unless `retryReads`, writes unless `retryWrites` is false. */
 mdb_net_code mdb_net_command(mdb_net_client *client, const char *database, mdb_net_document command, const mdb_net_command_options *options,
                              mdb_net_reply *reply, mdb_net_err *err);
+
+/* ---- cursors */
+
+/* The documents that a command answers batch by batch. Of one thread at a time. Behind a load balancer its connection is pinned until it is at its end. */
+typedef struct mdb_net_cursor mdb_net_cursor;
+
+/* Runs a command that opens a cursor, as mdb_net_command does; its options hold for each batch. INTERNAL where the reply has none. */
+mdb_net_code mdb_net_cursor_open(mdb_net_client *client, const char *database, mdb_net_document command, const mdb_net_command_options *options,
+                                 mdb_net_cursor **cursor, mdb_net_err *err);
+
+/* The next document, which stays until the next call. Its `at` is NULL behind the last one, and where a tailable cursor has none now. */
+mdb_net_code mdb_net_cursor_next(mdb_net_cursor *cursor, mdb_net_document *document, mdb_net_err *err);
+
+/* Whether the server keeps it still. */
+bool mdb_net_cursor_is_open(const mdb_net_cursor *cursor);
+
+/* Ends it, at the server too where it is open there: before its client and its session. */
+void mdb_net_cursor_free(mdb_net_cursor *cursor);
 
 /* ---- what happens */
 

@@ -227,10 +227,43 @@ mdb_net_code check_out(client_t *client, const char *address, const struct limit
         out->party = waiter.party;
         out->pooled = reply.kind == MDB_POOLED ? pooled_find(client, &(mdb_connection){ reply.pool, reply.id }) : NULL;
         out->cause = waiter.cause;
+        out->name = (mdb_connection){ reply.pool, reply.id };
         over = code_of(client, &reply, &waiter, over);
     }
     client_unlock(client);
     return over;
+}
+
+mdb_net_code check_out_pinned(client_t *client, const mdb_connection *name, const struct limit *limit, struct checked_out *out) {
+    *out = (struct checked_out){ .pooled = NULL };
+    client_lock(client);
+    mdb_net_code over = limit_over(client, limit);
+    if (over == MDB_NET_OK) {
+        struct step step = { .number = ++client->last_party, .name = *name };
+        mdb_reply reply = driver_step(client, take_step, &step);
+        out->party = step.number;
+        out->pooled = reply.kind == MDB_POOLED ? pooled_find(client, name) : NULL;
+        out->name = *name;
+        if (out->pooled) hold(client, out->pooled);
+        else over = client->failed ? client->failed : MDB_NET_CLEARED;
+    }
+    client_unlock(client);
+    return over;
+}
+
+bool pool_pin(client_t *client, const struct checked_out *out) {
+    struct step step = { .number = out->party };
+    client_lock(client);
+    mdb_reply reply = driver_step(client, pin_step, &step);
+    client_unlock(client);
+    return reply.kind == MDB_DONE;
+}
+
+void pool_unpin(client_t *client, const mdb_connection *name) {
+    struct step step = { .name = *name };
+    client_lock(client);
+    driver_step(client, unpin_step, &step);
+    client_unlock(client);
 }
 
 bool report(client_t *client, const struct checked_out *out, const char *error) {
@@ -244,6 +277,7 @@ bool report(client_t *client, const struct checked_out *out, const char *error) 
 void check_in(client_t *client, const struct checked_out *out, uint32_t used) {
     struct step step = { .number = out->party, .used = used };
     client_lock(client);
+    let_go(client, pooled_find(client, &out->name)); // of one that goes back to its pin no fact says so
     driver_step(client, return_step, &step);
     client_unlock(client);
 }

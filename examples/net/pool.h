@@ -50,11 +50,21 @@ mdb_net_code limit_over(const client_t *client, const struct limit *limit);
 struct checked_out {
     uint32_t party;
     struct pooled *pooled;
+    mdb_connection name;
     struct cause cause; // where it failed
 };
 
 // Asks for a connection to the server, and sleeps until the request has one, has ended or is over. Not under the lock.
 mdb_net_code check_out(client_t *client, const char *address, const struct limit *limit, struct checked_out *out);
+
+// The connection of a pin, which a new party takes. Not under the lock.
+mdb_net_code check_out_pinned(client_t *client, const mdb_connection *name, const struct limit *limit, struct checked_out *out);
+
+// Pins the connection, which is its party's until it is returned. Answers whether it did. Not under the lock.
+bool pool_pin(client_t *client, const struct checked_out *out);
+
+// One pin less. Not under the lock.
+void pool_unpin(client_t *client, const mdb_connection *name);
 
 // Tells libmdb of an error that an operation met, as `network msg=..`. Answers whether it changed what is known of the servers. Not under the lock.
 bool report(client_t *client, const struct checked_out *out, const char *error);

@@ -29,6 +29,20 @@ mdb_status topology_address(mdb_slot *slot, size_t place, char address[ADDRESS_R
     return status;
 }
 
+void topology_why(mdb_slot *slot, struct text *text) {
+    mdb_topology topology = { .kind = 0 };
+    char address[ADDRESS_ROOM], error[200];
+    size_t length = 0;
+    if (mdb_topology_get(slot, &topology) != MDB_OK) return;
+    text_add(text, ": %s", TOPOLOGIES[topology.kind]);
+    for (size_t i = 0; i < topology.servers; i++) {
+        if (mdb_server_text(slot, i, MDB_TEXT_ERROR, (uint8_t *)error, sizeof error - 1, &length) != MDB_OK) continue;
+        if (topology_address(slot, i, address) != MDB_OK) continue;
+        text_add(text, ", %s %.*s", address, (int)length, error);
+        return;
+    }
+}
+
 // ---- the choice
 
 struct candidate {

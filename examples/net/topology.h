@@ -11,6 +11,9 @@ mdb_status topology_line(mdb_slot *slot, struct text *line);
 // Writes the address of the server at this place. MDB_NO_ENTRY where there is none.
 mdb_status topology_address(mdb_slot *slot, size_t place, char address[ADDRESS_ROOM]);
 
+// Adds, as far as it fits, of what kind the topology is, and the error of the first server that has one.
+void topology_why(mdb_slot *slot, struct text *text);
+
 // What is wanted of a server.
 struct wanted {
     uint32_t preference; // MDB_NET_PRIMARY ..
