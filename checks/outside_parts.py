@@ -80,6 +80,11 @@ def live(script: str, *words: object, targets: tuple[str, ...] = ("all",)) -> Ca
     return commands
 
 
+def live_commands(built: Built) -> list[Command]:
+    few = ("--plans", "lost-reply", "lost-request", "kill-the-primary", "load-balancer", "seed-list")
+    return live("commands", "--recorded", built.program("mdb_recorded"), *few, targets=("all", "calls"))(built)
+
+
 def play(built: Built) -> list[Command]:
     variables = {f"MDB_{it}": built.program(f"mdb_{it.lower()}") for it in ("FLEET", "RECORDED")}
     variables |= {"PYTHONPATH": BINDINGS / "python", "MDB_LIBRARY": built.library / "libmdb.so"}
@@ -109,6 +114,9 @@ PARTS = {
         Part("library", "the library for C from C: sanitizers, threads, refused allocations", ("g++", "valgrind"), (*AUDITED, "mdb_script"), library),
         Part("scenarios", "the live client: scenarios of servers that fail and recover", NATIVE, AUDITED, live("run", "--alone")),
         Part("mended", "the live client: what embedders get wrong", (*NATIVE, "ss"), AUDITED, live("mended", *MENDED, targets=("all", "plain", "calls"))),
+        Part("secured", "the live client: TLS and SCRAM-SHA-256", (*NATIVE, "pkg-config libssl", "openssl"), AUDITED,
+             live("secured", targets=("all", "calls", "vectors", "without"))),
+        Part("commands", "the live client: cursors, sessions, what is tried twice", NATIVE, (*AUDITED, "mdb_recorded"), live_commands),
         Part("failover", "the live client: a failover under 32 threads", NATIVE, AUDITED, live("failover")),
         Part("hostile", "the live client: damaged answers under load, with sanitizers", NATIVE, AUDITED, live("hostile", targets=("sanitized",))),
         Part("soak", "the live client: half a minute of blows", NATIVE, (LIBRARY,), live("soak", "--seconds", 30)),

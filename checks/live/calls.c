@@ -6,7 +6,7 @@
 //   stop CLIENT THREADS                                               as many threads stop the client at once
 //   open URI                                                          a client is opened and freed
 //
-// Each line is answered by one: `CODE sent=0 changed=0 retried=0 server=0 ms=N reply=BYTES TEXT`.
+// Where MDB_LOG names a file the entries of the first client go there at its end. Each line is answered by one: `CODE sent=0 changed=0 retried=0 server=0 ms=N reply=BYTES TEXT`.
 #include <bson/bson.h>
 #include <mdb_net.h>
 #include <pthread.h>
@@ -130,12 +130,25 @@ static void open_and_free(const char *uri) {
     tell(&err, milliseconds() - began, 0);
 }
 
+// Writes the log of a client that has been stopped.
+static void write_log(mdb_net_client *client, FILE *file) {
+    mdb_net_batch batch;
+    mdb_net_notice notice;
+    mdb_net_stop(client);
+    while (mdb_net_take(client, MDB_NET_LOG, 0, &batch) == MDB_NET_OK) {
+        while (mdb_net_next(&batch, &notice)) fwrite(notice.text, 1, notice.length, file);
+    }
+    fclose(file);
+}
+
 int main(int count, char **words) {
     char line[512], name[64];
     mdb_net_err err;
+    FILE *log = getenv("MDB_LOG") ? fopen(getenv("MDB_LOG"), "w") : NULL;
+    const mdb_net_options options = { .tells = log ? MDB_NET_TELLS_ENTRIES : 0 };
     setvbuf(stdout, NULL, _IOLBF, 0);
     for (int i = 1; i < count && i <= CLIENTS; i++) {
-        if (mdb_net_open(words[i], NULL, &clients[i - 1], &err) != MDB_NET_OK) return fprintf(stderr, "%s\n", err.text), 1;
+        if (mdb_net_open(words[i], &options, &clients[i - 1], &err) != MDB_NET_OK) return fprintf(stderr, "%s\n", err.text), 1;
     }
     while (fgets(line, sizeof line, stdin)) {
         int client = 0, used = 0, threads = 0, batch = 0;
@@ -146,6 +159,7 @@ int main(int count, char **words) {
         else if (sscanf(line, "walk %d %d %d", &client, &batch, &threads) == 3 && client < count - 1) walk(clients[client], batch, threads);
         else if (sscanf(line, "run %d %63s%n", &client, name, &used) == 2 && client < count - 1) run(clients[client], name, line + used);
     }
+    if (log) write_log(clients[0], log);
     for (int i = 0; i < CLIENTS; i++) mdb_net_free(clients[i]);
     return 0;
 }

@@ -359,8 +359,9 @@ def options(given):
     """What real connection strings say is taken, and what is none is refused."""
     servers = Servers(given.python, 'replica', 1)
     servers.do('elect 0')
-    taken = ['connectTimeoutMS=0', 'maxPoolSize=0', 'waitQueueTimeoutMS=0', 'socketTimeoutMS=0', 'replicaSet=%72s', 'replicaSet=r%73&maxIdleTimeMS=0', 'appName=a%20b%26c', 'retryReads=false', 'ssl=false']
-    refused = ['replicaSet=%7', 'replicaSet=%zz', 'maxPoolSize=-1', 'connectTimeoutMS=x', 'heartbeatFrequencyMS=499', 'tls=true&ssl=false', 'readPreference=x', 'maxStalenessSeconds=90', 'replicaSet=a%00b', 'loadBalanced=yes']
+    taken = ['connectTimeoutMS=0', 'maxPoolSize=0', 'waitQueueTimeoutMS=0', 'socketTimeoutMS=0', 'replicaSet=%72s', 'replicaSet=r%73&maxIdleTimeMS=0', 'appName=a%20b%26c', 'retryReads=false', 'ssl=false', 'retryWrites=true&w=majority&readPreference=secondaryPreferred&readPreferenceTags=dc:ny&readPreferenceTags=&maxStalenessSeconds=-1',
+             'journal=true&wtimeoutMS=100&readConcernLevel=majority']
+    refused = ['replicaSet=%7', 'replicaSet=%zz', 'maxPoolSize=-1', 'connectTimeoutMS=x', 'heartbeatFrequencyMS=499', 'tls=true&ssl=false', 'readPreference=x', 'maxStalenessSeconds=90', 'w=a%20b', 'replicaSet=a%00b', 'loadBalanced=yes']
     wrong = []
     for option in taken + refused:
         ran = subprocess.run([given.program, 'mongodb://%s/?%s' % (servers.addresses[0], option), '1'], stdout=subprocess.PIPE, stderr=subprocess.PIPE, text=True)
@@ -376,7 +377,7 @@ def said_first(given):
     servers = Servers(given.python, 'replica', 1)
     servers.do('elect 0')
     names = Names({'records': ['a.live.test:@0'], 'txt': 'loadBalanced=true'}, servers.addresses)
-    uri = 'mongodb+srv://cluster.live.test/?loadBalanced=false&heartbeatFrequencyMS=500'
+    uri = 'mongodb+srv://cluster.live.test/?loadBalanced=false&tls=false&heartbeatFrequencyMS=500'
     ran = subprocess.run([given.program, uri, '1'], stdout=subprocess.PIPE, stderr=subprocess.PIPE, text=True, env={**os.environ, **names.env()})
     names.close()
     servers.close()

@@ -197,7 +197,7 @@ class Runs:
             seeds = '[::1]:%d' % Forwarder(addresses[0]).port
             addresses[0] = seeds
         names = Names(scenario['names'], servers.addresses) if 'names' in scenario else None
-        uri = '%s://%s/?%s' % ('mongodb+srv' if names else 'mongodb', seeds, scenario['options'])
+        uri = '%s://%s/?%s%s' % ('mongodb+srv' if names else 'mongodb', seeds, scenario['options'], '&tls=false' if names else '')
         views = []
         try:
             for command in scenario.get('before', []):

@@ -142,6 +142,26 @@ static void put_preference(struct operation *operation, struct document *more) {
     put_close(more);
 }
 
+// The concern that the connection string says, where the command says none.
+static void put_concern(const struct operation *operation, struct document *more) {
+    const struct concern *concern = &operation->client->options.concern;
+    const struct traits *traits = &operation->traits;
+    bool written = concern->w[0] || concern->journal >= 0 || concern->wait;
+    if (operation->options.once || traits->has_concern) return;
+    if (traits->reads && concern->level[0]) {
+        put_open(more, "readConcern");
+        put_text(more, "level", concern->level);
+        put_close(more);
+    }
+    if (!traits->writes || !written) return;
+    put_open(more, "writeConcern");
+    if (concern->w[0] && !concern->w[strspn(concern->w, "0123456789")]) put_int32(more, "w", atoi(concern->w));
+    else if (concern->w[0]) put_text(more, "w", concern->w);
+    if (concern->journal >= 0) put_bool(more, "j", concern->journal);
+    if (concern->wait) put_int64(more, "wtimeout", (int64_t)concern->wait);
+    put_close(more);
+}
+
 static void put_session(struct operation *operation, struct document *more) {
     client_t *client = operation->client;
     uint8_t time[CLUSTER_ROOM];
@@ -164,6 +184,7 @@ static enum net_fault exchange(struct operation *operation, struct conn *conn) {
     struct reply *reply = &operation->outcome.reply;
     document_begin(&more);
     put_preference(operation, &more);
+    put_concern(operation, &more);
     put_session(operation, &more);
     put_text(&more, "$db", operation->database);
     if (more.full) return NET_NO_MEMORY;
@@ -309,7 +330,10 @@ mdb_net_code operation_begin(struct operation *operation, client_t *client, cons
     const char *tags = operation->options.tags;
     bool well = is_document(command) && is_name(database, strlen(database)) && operation->options.preference <= MDB_NET_NEAREST;
     if (well && (!tags || strlen(tags) < TAGS_ROOM)) {
-        operation->traits = traits_of(command);
+        struct traits traits = traits_of(command);
+        bool none = traits.writes && !traits.has_concern && !operation->options.once && !strcmp(client->options.concern.w, "0");
+        if (none) traits.unacknowledged = true, traits.kind = COMMAND_OTHER;
+        operation->traits = traits;
         return MDB_NET_OK;
     }
     operation->outcome.err.code = MDB_NET_OPTIONS;

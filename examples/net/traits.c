@@ -65,7 +65,8 @@ static void read_field(struct walk *walk, const bson_iter_t *at) {
     else if (!strcmp(key, "$readPreference")) traits->has_preference = true;
     else if (!strcmp(key, "$clusterTime")) traits->has_time = true;
     else if (!strcmp(key, "autocommit")) walk->transaction = true;
-    else if (!strcmp(key, "writeConcern")) traits->unacknowledged = is_zero(at);
+    else if (!strcmp(key, "readConcern")) traits->has_concern = true;
+    else if (!strcmp(key, "writeConcern")) traits->has_concern = true, traits->unacknowledged = is_zero(at);
     else if (!strcmp(key, "tailable")) traits->tailable = bson_iter_as_bool(at);
     else if (!strcmp(key, "updates") || !strcmp(key, "deletes") || !strcmp(key, "ops")) walk->many = walk->many || has_many(at);
     else if (!strcmp(key, "pipeline")) read_pipeline(walk, at);
@@ -89,6 +90,8 @@ struct traits traits_of(mdb_net_document document) {
     if (!bson_iter_next(&at)) return traits;
     read_name(&traits, &at);
     while (bson_iter_next(&at)) read_field(&walk, &at);
+    traits.reads = traits.kind == COMMAND_READ && !walk.transaction && !walk.writes_out && strncmp(traits.name, "list", 4) != 0;
+    traits.writes = (traits.kind == COMMAND_WRITE || walk.writes_out) && !walk.transaction;
     bool written = traits.kind == COMMAND_WRITE && (walk.many || traits.unacknowledged);
     bool once = at.err_off != 0 || walk.transaction || walk.writes_out || traits.has_number || written;
     if (once) traits.kind = COMMAND_OTHER;

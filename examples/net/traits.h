@@ -14,7 +14,8 @@ struct traits {
     enum command_kind kind;
     char name[32], collection[256]; // the collection is the text behind the name, empty where there is none
     // Fields that its caller wrote, and which are not added then.
-    bool has_session, has_number, has_preference, has_time;
+    bool has_session, has_number, has_preference, has_time, has_concern;
+    bool reads, writes;  // by its name, outside of a transaction: a read or a write concern belongs to it
     bool unacknowledged; // its write concern is 0
     bool tailable;       // its cursor does not end with its documents
 };

@@ -8,7 +8,9 @@
 enum { LEAST_HEARTBEAT = 500, POOL_MOST = 65535, PAIRS_ROOM = 4096 };
 
 void options_begin(struct options *options) {
-    *options = (struct options){ .max = -1, .min = -1, .connecting = -1, .idle = -1, .wait = -1, .retry_reads = true, .retry_writes = true };
+    *options = (struct options){
+        .max = -1, .min = -1, .connecting = -1, .idle = -1, .wait = -1, .retry_reads = true, .retry_writes = true, .concern = { .journal = -1 }
+    };
     options->heartbeat = options->connect = 10000;
     options->selection = 30000;
     options->near = 15;
@@ -16,8 +18,7 @@ void options_begin(struct options *options) {
     options->notes = TEXT_IN(options->notes_room);
 }
 
-// A whole number from `least` on, at most FOR_EVER.
-static bool number(const char *value, uint64_t least, uint64_t *out) {
+bool number_read(const char *value, uint64_t least, uint64_t *out) {
     size_t digits = strspn(value, "0123456789");
     if (digits == 0 || digits > 18 || value[digits]) return false;
     *out = strtoull(value, NULL, 10);
@@ -26,14 +27,14 @@ static bool number(const char *value, uint64_t least, uint64_t *out) {
 
 // A number of milliseconds, of which 0 stands for no bound.
 static bool bound(const char *value, uint64_t *out) {
-    if (!number(value, 0, out)) return false;
+    if (!number_read(value, 0, out)) return false;
     if (*out == 0) *out = FOR_EVER;
     return true;
 }
 
 static bool number_in(const char *value, uint64_t least, uint64_t most, long *out) {
     uint64_t read;
-    if (!number(value, least, &read) || read > most) return false;
+    if (!number_read(value, least, &read) || read > most) return false;
     *out = (long)read;
     return true;
 }
@@ -68,8 +69,8 @@ static bool set_topology(struct options *options, const char *name, const char *
     if (!strcasecmp(name, "replicaSet")) return set_name(options, value);
     if (!strcasecmp(name, "directConnection")) return flag_read(value, &options->direct);
     if (!strcasecmp(name, "loadBalanced")) return flag_read(value, &options->load_balanced) && (options->load_balanced_said = true);
-    if (!strcasecmp(name, "heartbeatFrequencyMS")) return number(value, LEAST_HEARTBEAT, &options->heartbeat);
-    if (!strcasecmp(name, "localThresholdMS")) return number(value, 0, &options->near);
+    if (!strcasecmp(name, "heartbeatFrequencyMS")) return number_read(value, LEAST_HEARTBEAT, &options->heartbeat);
+    if (!strcasecmp(name, "localThresholdMS")) return number_read(value, 0, &options->near);
     if (!strcasecmp(name, "appName")) return set_app(options, value);
     return *known = false;
 }
@@ -78,9 +79,9 @@ static bool set_topology(struct options *options, const char *name, const char *
 static bool set_pool(struct options *options, const char *name, const char *value, bool *known) {
     *known = true;
     if (!strcasecmp(name, "connectTimeoutMS")) return bound(value, &options->connect);
-    if (!strcasecmp(name, "serverSelectionTimeoutMS")) return number(value, 1, &options->selection);
-    if (!strcasecmp(name, "socketTimeoutMS")) return number(value, 0, &options->socket);
-    if (!strcasecmp(name, "timeoutMS")) return number(value, 0, &options->whole);
+    if (!strcasecmp(name, "serverSelectionTimeoutMS")) return number_read(value, 1, &options->selection);
+    if (!strcasecmp(name, "socketTimeoutMS")) return number_read(value, 0, &options->socket);
+    if (!strcasecmp(name, "timeoutMS")) return number_read(value, 0, &options->whole);
     if (!strcasecmp(name, "maxPoolSize")) return set_max(options, value);
     if (!strcasecmp(name, "minPoolSize")) return number_in(value, 0, POOL_MOST, &options->min);
     if (!strcasecmp(name, "maxConnecting")) return number_in(value, 1, POOL_MOST, &options->connecting);
