@@ -39,21 +39,16 @@ static void want(client_t *client, uint32_t watcher, bool wanted) {
     if (before == 0 && client->watchers) monitors_wake(client);
 }
 
-static struct wanted wanted_of(const struct operation *operation, const char *avoided) {
-    const struct options *given = &operation->client->options;
-    const mdb_net_command_options *options = &operation->options;
-    bool read = operation->traits.kind == COMMAND_READ && !options->once && !options->preference;
-    return (struct wanted){
-        .preference = options->preference ? options->preference
-                      : read              ? given->preference
-                                          : MDB_NET_PRIMARY,
-        .tags = options->tags ? options->tags
-                : read        ? given->tags
-                              : "",
-        .avoided = avoided,
-        .near = given->near,
-        .turn = operation->client->turn++,
-    };
+// The read preference, and the sets of tags that a server is to have. Those of the connection string are for reads.
+static uint32_t preference_of(const struct operation *operation) {
+    bool read = operation->traits.kind == COMMAND_READ && !operation->options.once;
+    uint32_t own = operation->options.preference;
+    return own ? own : read ? operation->client->options.preference : MDB_NET_PRIMARY;
+}
+
+static const char *tags_of(const struct operation *operation) {
+    bool read = operation->traits.kind == COMMAND_READ && !operation->options.once && !operation->options.preference;
+    return operation->options.tags ? operation->options.tags : read ? operation->client->options.tags : "";
 }
 
 // Why there is none, as far as it is known.
@@ -71,7 +66,9 @@ static mdb_net_code choose(struct operation *operation, const char *avoided) {
     mdb_status status = MDB_NO_ENTRY;
     uint32_t watcher = 0;
     client_lock(client);
-    struct wanted wanted = wanted_of(operation, avoided);
+    struct wanted wanted = {
+        .preference = preference_of(operation), .tags = tags_of(operation), .avoided = avoided, .near = client->options.near, .turn = client->turn++
+    };
     while (!(over = limit_over(client, &operation->limit)) && (status = topology_choose(&client->slot, &wanted, &operation->chosen)) != MDB_OK) {
         uint64_t again = status == MDB_NO_MEMORY ? clock_now() + 10 * MILLISECOND : NO_DEADLINE;
         if (clock_now() >= until) {
@@ -133,7 +130,7 @@ static void put_tags(struct document *more, const char *sets) {
 }
 
 static void put_preference(struct operation *operation, struct document *more) {
-    const char *mode = operation->chosen.mode, *tags = wanted_of(operation, "").tags;
+    const char *mode = operation->chosen.mode, *tags = tags_of(operation);
     bool reads = operation->traits.kind == COMMAND_READ || operation->options.preference > MDB_NET_PRIMARY || operation->fixed;
     if (!mode || !reads || operation->traits.has_preference) return;
     put_open(more, "$readPreference");
