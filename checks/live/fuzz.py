@@ -21,18 +21,22 @@ import sys, os
 sys.dont_write_bytecode = True
 sys.path.insert(0, sys.argv[1])
 from servers import *
+from bson import Timestamp
 fleet = Fleet('replica', 3)
 for at, member in enumerate(fleet.all): member.port = 1 + at
 fleet.all[0].primary, fleet.all[0].term, fleet.all[2].role = True, 1, 'arbiter'
 router, balancer = Member(fleet, 3, 'router'), Member(fleet, 4, 'balancer')
 said = [it.hello({'hello': 1, 'loadBalanced': True}, 7) for it in (*fleet.all, router, balancer)]
 said[0].update(tags={'dc': 'ny', 'rack': '1'}, passives=['B:2'], lastWrite={'opTime': 1})
-said += [fleet.all[1].other('insert'), {'ok': 1, 'writeConcernError': {'code': 91, 'errmsg': 'x', 'errorLabels': ['RetryableWriteError']}}, {'ok': 0.0, 'errmsg': 'a|b'}]
+said += [fleet.all[1].other('insert', {}), fleet.all[0].other('find', {}), {'ok': 1, '$clusterTime': {'clusterTime': Timestamp(7, 1), 'signature': {'keyId': Int64(1)}},
+    'cursor': {'id': Int64(5), 'ns': 'a.b', 'nextBatch': [{'_id': 1}]}}, {'ok': 1, 'writeConcernError': {'code': 91, 'errmsg': 'x', 'errorLabels': ['RetryableWriteError']}}, {'ok': 0.0, 'errmsg': 'a|b'}]
 said.append(filling(dict(said[0]), 65535))
 for at, fields in enumerate(said):
     for form, code in ((0, OP_QUERY), (1, OP_MSG)):
         flags = MORE if at % 2 and form else 0
         open(os.path.join(sys.argv[2], '%d-%d' % (at, form)), 'wb').write(bytes([form]) + packed(code, 1, fields, 2, flags) + packed(code, 2 if flags else 1, fields, 3))
+for at, text in enumerate(('r=nonce%x,s=W22ZaJ0SNY7soEsUEjb6gQ==,i=4096', 'r=nonce1,s=AA==,i=99999', 'v=6rriTRBi23WpRR/wtup+mMhUZUn/dB5nLTJRsjl95G4=', 'e=x,r=,s=')):
+    open(os.path.join(sys.argv[2], 'scram-%d' % at), 'wb').write(bytes([4]) + text.encode())
 '''
 
 

@@ -2,7 +2,7 @@
 """What embedders of libmdb get wrong, each as a scenario: callers who wait and sleeping monitors, readers that stop, files and memory that are missing, threads that
 come late, operations without an end.
 
-usage: checks/live/mended.py [--program MDB_LIVE] [--auditor MDB_AUDITOR] [--python PYTHON] [--reader FUZZ_SAN] [--calls CALLS] [--shim SHIM] [--list] [NAME ..]
+usage: checks/live/mended.py [--program MDB_LIVE] [--auditor MDB_AUDITOR] [--python PYTHON] [--reader FUZZ_SAN] [--calls CALLS] [--shim SHIM] [--each] [--list] [NAME ..]
 
 PROGRAM is examples/live/out/mdb_live where it is left out, READER examples/live/out/fuzz_san (`make plain`), CALLS examples/live/out/calls (`make calls`). shim.c is built by cc, where SHIM is left out. Each scenario writes a line of
 what was measured. Status 0 where all is well, else 1.
@@ -17,10 +17,11 @@ import subprocess
 import sys
 import tempfile
 import time
+from concurrent.futures import ThreadPoolExecutor
 
 sys.dont_write_bytecode = True
 from dns import Names
-from run import HERE, TOP, Servers, View
+from run import HERE, TOP, Servers
 
 SLOW = 'replicaSet=rs&heartbeatFrequencyMS=10000'
 WIDE = r'''
@@ -278,9 +279,11 @@ def no_memory(given):
 
 
 def each_allocation(given):
-    """One allocation is refused, each of the first 40 in turn and then one of 25: nothing else changes, but where the client cannot be opened."""
+    """One allocation is refused, each of the first 40 in turn and then one of 25, with --each every one of 1,500: nothing else changes, but where the client cannot be
+    opened."""
     said, bad = {0: 0, 3: 0}, []
-    for number in [*range(1, 41), *range(65, 1500, 25)]:
+
+    def refuse(number):
         played = Played(given, CALM, ['--load', '2', '--pace', '20', '--log', 'LOG'], count=2, env={'LD_PRELOAD': given.shim, 'SHIM_MALLOC': str(number)})
         time.sleep(1.5)
         status, _ = played.end()
@@ -288,6 +291,9 @@ def each_allocation(given):
         said[status] = said.get(status, 0) + 1
         if not (status == 0 and legal(played.judged()) and not told) and not (status == 3 and 'out of memory' in told):
             bad.append('%d: status %s %s' % (number, status, told))
+
+    with ThreadPoolExecutor(4) as four:
+        list(four.map(refuse, range(1, 1501) if given.each else [*range(1, 41), *range(65, 1500, 25)]))
     return not bad and set(said) == {0, 3}, '%d runs went on, %d were not opened; wrong: %s' % (said[0], said[3], bad or 'none')
 
 
@@ -472,6 +478,7 @@ def main():
     parser.add_argument('--auditor', default=os.path.join(TOP, 'crates', 'mdb_auditor', 'out', 'mdb_auditor'))
     parser.add_argument('--python', default='/usr/bin/python3')
     parser.add_argument('--shim')
+    parser.add_argument('--each', action='store_true')
     parser.add_argument('--list', action='store_true')
     parser.add_argument('names', nargs='*')
     given = parser.parse_args()

@@ -172,7 +172,7 @@ def told(given):
     """A caller hears why: the code, and the text with the reason."""
     made = given.certificates
     plays = [(['--user', USER, PASSWORD], '', WHO.replace('%20l', ''), AUTH, 'AuthenticationFailed'), (['--user', USER, PASSWORD], '', WHO, OK, ''),
-             (made.tls(), '&tls=true', '', NO_SERVER, 'self-signed certificate in certificate chain')]
+             (made.tls(), '&tls=true', '', NO_SERVER, 'TLS: unable to get local issuer certificate')]
     wrong = []
     for words, options, who, code, text in plays:
         servers = Servers(given.python, 'replica', 1, words=words)
@@ -204,6 +204,24 @@ def failover(given):
     return after > before + 10 and status == 0 and legal(judged), '%d inserts, %d in the last 2 s; status %s after %.2f s; %s' % (after, after - before, status, took, judged)
 
 
+def no_memory(given):
+    """Allocations that are refused, one in so many, also those of OpenSSL, of which a handshake makes thousands: no pool is cleared for that, and the log is legal."""
+    said, well = [], True
+    with tempfile.TemporaryDirectory() as folder:
+        shim = os.path.join(folder, 'shim.so')
+        subprocess.run(['cc', '-O1', '-shared', '-fPIC', os.path.join(TOP, 'checks', 'live', 'shim.c'), '-o', shim, '-ldl'], check=True)
+        for rule in ('random:10000', 'random:30000', '20000/9973', '3000/997'):
+            played = Played(given, FAST + '&tls=true&tlsCAFile=' + given.certificates.path('ca.pem'), ['--load', '8', '--pace', '5', '--log', 'LOG'],
+                            servers=given.certificates.tls('server', '--user', USER, PASSWORD), who=WHO, env={'LD_PRELOAD': shim, 'SHIM_MALLOC': rule})
+            time.sleep(4)
+            status, _ = played.end()
+            fine, cleared, judged = played.count('fine'), played.count('pools cleared'), played.judged()
+            good = status == 0 and fine > 10 and cleared == 0 and legal(judged) or status in (1, 3) and fine == 0
+            well = well and good
+            said.append('%s%s: %d inserts, %d pools cleared, status %s, %s %s' % ('' if good else 'WRONG ', rule, fine, cleared, status, judged, played.told()))
+    return well, '; '.join(said)
+
+
 def frozen(given):
     """A server that takes connections and never answers the handshake of TLS: it is timed out, and the program ends at once."""
     played = Played(given, FAST + '&tls=true', ['--load', '4', '--log', 'LOG'], servers=given.certificates.tls(), before=('elect 0', 'clog 0', 'clog 1', 'clog 2'))
@@ -221,7 +239,7 @@ def without(given):
     ])
 
 
-SCENARIOS = {it.__name__: it for it in (examples, certificates, clients, users, lies, told, failover, frozen, without)}
+SCENARIOS = {it.__name__: it for it in (examples, certificates, clients, users, lies, told, failover, no_memory, frozen, without)}
 
 
 def main():

@@ -1,7 +1,9 @@
 // For a fuzzer: bytes as a server may send them go through the reader of messages, and what it makes of them goes to the library, which must be able to
-// read it. The first byte says in which form the command was sent, and whether a reply came before. Ends by abort() where a line is malformed.
+// read it. The first byte says in which form the command was sent, and whether a reply came before, or that the rest is a server's message of SCRAM. Ends by
+// abort() where a line is malformed.
 #include "handshake.h"
 #include "mdb.h"
+#include "scram.h"
 #include <stdio.h>
 #include <stdlib.h>
 #include <string.h>
@@ -37,7 +39,19 @@ static void tell(const struct handshake *shake) {
 
 enum { INPUT_MOST = 200000, BUFFER = 400000 };
 
-static void try_bytes(const uint8_t *bytes, size_t length) {
+// As the first and as the last message of a server.
+static void try_scram(const char *told, size_t length) {
+    struct scram scram;
+    struct scram_keys keys = { .set = false };
+    char room[SCRAM_ROOM];
+    struct text first = TEXT_IN(room), last = TEXT_IN(room);
+    if (length >= SCRAM_ROOM || !scram_begin(&scram, "a,b=c", "nonce", &first)) return;
+    scram_continue(&scram, "pencil", told, length, &keys, &last);
+    memset(scram.proof, 0, sizeof scram.proof);
+    if (scram_ends(&scram, told, length)) abort();
+}
+
+static void try_messages(const uint8_t *bytes, size_t length) {
     static struct handshake shake;
     int ends[2], room = BUFFER;
     if (length < 1 || length > INPUT_MOST || socketpair(AF_UNIX, SOCK_STREAM | SOCK_NONBLOCK, 0, ends)) return;
@@ -52,6 +66,11 @@ static void try_bytes(const uint8_t *bytes, size_t length) {
         if (shake.network) break;
     }
     sock_close(&conn.sock);
+}
+
+static void try_bytes(const uint8_t *bytes, size_t length) {
+    if (length > 0 && bytes[0] & 4) try_scram((const char *)bytes + 1, length - 1);
+    else try_messages(bytes, length);
 }
 
 #ifdef __AFL_FUZZ_TESTCASE_LEN

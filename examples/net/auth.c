@@ -99,11 +99,12 @@ static bool converse(struct talk *talk, struct scram_keys *keys) {
     struct text message = TEXT_IN(room), empty = { .at = nonce, .size = 1 };
     struct scram scram;
     struct step step;
-    if (!scram_nonce(nonce) || !scram_begin(&scram, talk->who->user, nonce, &message)) return refuse(talk, "no message of SCRAM could be made");
+    if (!scram_nonce(nonce)) return fail(talk, NET_NO_MEMORY);
+    if (!scram_begin(&scram, talk->who->user, nonce, &message)) return refuse(talk, "no message of SCRAM could be made");
     if (!start(talk, &message, &step)) return false;
     message = TEXT_IN(room);
     const char *wrong = scram_continue(&scram, talk->who->password, step.payload, step.length, keys, &message);
-    if (wrong) return refuse(talk, wrong);
+    if (wrong) return scram.lacks_memory ? fail(talk, NET_NO_MEMORY) : refuse(talk, wrong);
     if (!go_on(talk, &message, &step)) return false;
     if (!scram_ends(&scram, step.payload, step.length)) return refuse(talk, "the server does not know the password");
     // A server that does not skip it asks for an empty message at the end.

@@ -7,7 +7,7 @@
 #include <string.h>
 
 // As few rounds as the standard of authentication allows, and as many as a server is believed to ask for.
-enum { ROUNDS_LEAST = 4096, ROUNDS_MOST = 10000000 };
+enum { ROUNDS_LEAST = 4096, ROUNDS_MOST = 1000000 };
 
 static bool hmac(const uint8_t key[SCRAM_KEY], const void *bytes, size_t length, uint8_t out[SCRAM_KEY]) {
     unsigned size = SCRAM_KEY;
@@ -50,6 +50,7 @@ bool scram_nonce(char nonce[NONCE_ROOM]) {
 bool scram_begin(struct scram *scram, const char *user, const char *nonce, struct text *message) {
     struct text first = TEXT_IN(scram->first), own = TEXT_IN(scram->nonce);
     text_add(&own, "%s", nonce);
+    scram->lacks_memory = false;
     text_add(&first, "n=");
     for (; *user; user++) {
         if (*user == '=') text_add(&first, "=3D");
@@ -134,12 +135,13 @@ const char *scram_continue(struct scram *scram, const char *password, const char
     struct text signed_text = TEXT_IN(room);
     const char *wrong = read_asked(&asked, scram, told, length);
     if (wrong) return wrong;
-    if (!derive(keys, password, &asked)) return "no keys could be derived of the password";
+    scram->lacks_memory = !derive(keys, password, &asked);
+    if (scram->lacks_memory) return "no keys could be derived of the password";
     text_add(message, "c=biws,r=%.*s", (int)asked.nonce_length, asked.nonce); // `biws` is `n,,`: no channel is bound
     text_add(&signed_text, "%s,%.*s,%s", scram->first, (int)length, told, message->at);
     if (signed_text.full || message->full) return "the server's first message of SCRAM is too long";
-    bool well = add_proof(scram, keys, &signed_text, message);
-    return well && !message->full ? NULL : "no proof could be made";
+    scram->lacks_memory = !add_proof(scram, keys, &signed_text, message);
+    return !scram->lacks_memory && !message->full ? NULL : "no proof could be made";
 }
 
 bool scram_ends(const struct scram *scram, const char *told, size_t length) {

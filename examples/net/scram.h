@@ -18,6 +18,7 @@ struct scram_keys {
 struct scram {
     char nonce[NONCE_ROOM];   // the client's
     char first[SCRAM_ROOM];   // the first message, without its head
+    bool lacks_memory;        // nothing could be computed
     uint8_t proof[SCRAM_KEY]; // by which the server is to show that it knows the password too
 };
 

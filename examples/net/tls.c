@@ -58,6 +58,9 @@ static BIO_METHOD *below_new(void) {
 
 // ---- a context
 
+// Whether OpenSSL could not do its work, for want of memory or of what it makes of that, by the first or the last of its errors.
+static bool lacks_memory(void) { return ERR_FATAL_ERROR(ERR_peek_error()) || ERR_FATAL_ERROR(ERR_peek_last_error()); }
+
 // Nobody is asked for a password: it was given, or there is none.
 static int give_password(char *out, int room, int writing, void *given) {
     size_t length = strlen(given);
@@ -69,7 +72,7 @@ static int give_password(char *out, int room, int writing, void *given) {
 
 static bool trust(SSL_CTX *shared, const struct tls_options *options, struct text *wrong) {
     bool well = options->ca_file[0] ? SSL_CTX_load_verify_locations(shared, options->ca_file, NULL) == 1 : SSL_CTX_set_default_verify_paths(shared) == 1;
-    if (!well) text_add(wrong, "tlsCAFile cannot be read");
+    if (!well && !lacks_memory()) text_add(wrong, "tlsCAFile cannot be read");
     return well;
 }
 
@@ -80,7 +83,7 @@ static bool show_oneself(SSL_CTX *shared, struct tls_options *options, struct te
     bool well = SSL_CTX_use_certificate_chain_file(shared, options->key_file) == 1 &&
                 SSL_CTX_use_PrivateKey_file(shared, options->key_file, SSL_FILETYPE_PEM) == 1 && SSL_CTX_check_private_key(shared) == 1;
     SSL_CTX_set_default_passwd_cb_userdata(shared, NULL);
-    if (!well) text_add(wrong, "tlsCertificateKeyFile has no certificate with its key, or another password");
+    if (!well && !lacks_memory()) text_add(wrong, "tlsCertificateKeyFile has no certificate with its key, or another password");
     return well;
 }
 
@@ -120,7 +123,7 @@ static enum net_fault handle(struct sock *sock, int result, enum net_fault other
     case SSL_ERROR_WANT_WRITE: return sock_await(sock, POLLOUT);
     case SSL_ERROR_ZERO_RETURN: return NET_BROKEN;
     case SSL_ERROR_SYSCALL: return error == ENOMEM || error == ENOBUFS ? NET_NO_MEMORY : NET_BROKEN;
-    default: return ERR_GET_REASON(ERR_peek_last_error()) == ERR_R_MALLOC_FAILURE ? NET_NO_MEMORY : other;
+    default: return lacks_memory() ? NET_NO_MEMORY : other;
     }
 }
 
