@@ -24,6 +24,8 @@ PACKAGES = {
     "/usr/lib/x86_64-linux-musl/libc.a": "musl-dev:amd64",
     "/usr/lib/aarch64-linux-musl/libc.a": "musl-dev:arm64",
     "pkg-config libbson-1.0": "libbson-dev",
+    "pkg-config libssl": "libssl-dev",
+    "openssl": "openssl",
     "python pytest": "python3-pytest",
     "python bson": "python3-bson",
     "python pymongo": "python3-pymongo",

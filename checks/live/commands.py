@@ -85,8 +85,7 @@ def plans(given):
         with open(os.path.join(TOP, 'play', 'plans', file), encoding='utf-8') as plan:
             names = 'names ' in plan.read()
         words = ['sh', '-c', 'MDB_LIVE_DNS=$MDB_DNS exec "$@"', 'sh'] if names else []
-        uri = '$MDB_URI' + ('&tls=false' if names else '')
-        command = [*words, given.python, RECORD, '-', given.program, uri, '4', '--load', '4', '--pace', '5']
+        command = [*words, given.python, RECORD, '-', given.program, '$MDB_URI', '4', '--load', '4', '--pace', '5']
         play = Play(given, command, plan=('--plan', os.path.join(TOP, 'play', 'plans', file)))
         count += 1
         allowed = ('lost-writes',) if name == 'rolled-back' else ()  # of the application, which acknowledges by w=1

@@ -110,7 +110,7 @@ static mdb_net_code get_more(mdb_net_cursor *cursor, mdb_net_err *err) {
     bool gone = code == MDB_NET_COMMAND && operation.outcome.err.server_code == NOT_FOUND;
     bool broken = cursor->pinned && code != MDB_NET_OK && code != MDB_NET_COMMAND;
     if (gone || broken) cursor->id = 0;
-    if (code == MDB_NET_OK && !take_batch(cursor, &operation.outcome)) code = wrong_form(&operation);
+    if (code == MDB_NET_OK && !take_batch(cursor, &operation.outcome)) wrong_form(&operation);
     settle(cursor);
     return operation_give(&operation, NULL, err);
 }

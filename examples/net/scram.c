@@ -120,7 +120,7 @@ static bool derive(struct scram_keys *keys, const char *password, const struct a
 
 // The client's proof, behind the message that ends without it.
 static bool add_proof(struct scram *scram, const struct scram_keys *keys, const struct text *signed_text, struct text *message) {
-    uint8_t stored[SCRAM_KEY], signature[SCRAM_KEY];
+    uint8_t stored[SCRAM_KEY], signature[SCRAM_KEY] = { 0 };
     bool well = sha256(keys->client, stored) && hmac(stored, signed_text->at, signed_text->length, signature);
     well = well && hmac(keys->server, signed_text->at, signed_text->length, scram->proof);
     for (size_t i = 0; i < SCRAM_KEY; i++) signature[i] ^= keys->client[i];

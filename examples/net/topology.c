@@ -132,7 +132,7 @@ static char *tags_at(mdb_slot *slot, size_t place) {
 
 // Leaves those that have all tags of the first set that somebody has all of.
 static mdb_status keep_tagged(mdb_slot *slot, const char *sets, struct candidates *found) {
-    bool fits[SEED_MOST];
+    bool fits[SEED_MOST] = { false };
     char *tags[SEED_MOST] = { NULL };
     size_t count = 0, kept = 0;
     mdb_status status = MDB_OK;

@@ -121,6 +121,7 @@ static bool prove(struct worker *worker, struct conn *conn, struct failure *fail
     client_lock(client);
     if (keys.set) client->keys = keys;
     client_unlock(client);
+    explicit_bzero(&keys, sizeof keys);
     bool heard = result.code == MDB_NET_AUTH || result.code == MDB_NET_NO_FILES || result.code == MDB_NET_NO_MEMORY;
     failure->greeted = true;
     failure->cause.code = heard ? result.code : MDB_NET_NETWORK;
