@@ -13,6 +13,7 @@ import random
 import signal
 import subprocess
 import sys
+import tempfile
 import time
 
 sys.dont_write_bytecode = True
@@ -57,7 +58,8 @@ def main():
     servers.do('elect 0')
     uri = 'mongodb://%s/?replicaSet=rs&heartbeatFrequencyMS=500&connectTimeoutMS=1000&maxPoolSize=20&waitQueueTimeoutMS=2000&socketTimeoutMS=3000' % ','.join(servers.addresses)
     words = [given.program, uri, str(given.seconds + 100), '--load', str(given.threads), '--pace', '5']
-    live = subprocess.Popen(words, stdout=subprocess.PIPE, stderr=subprocess.STDOUT, text=True)
+    written = tempfile.TemporaryFile('w+')
+    live = subprocess.Popen(words, stdout=written, stderr=subprocess.STDOUT)
     began, told, took, late = time.monotonic(), 60.0, [], []
     sizes = []
     while time.monotonic() < began + given.seconds and live.poll() is None:
@@ -79,8 +81,10 @@ def main():
             print('%4d s: %d blows, %d KB' % (time.monotonic() - began, len(took), sizes[-1]), flush=True)
     size = memory(live.pid) if live.poll() is None else 0
     live.send_signal(signal.SIGTERM)
-    wrote = live.communicate(timeout=60)[0]
+    live.wait(60)
     servers.close()
+    written.seek(0)
+    wrote = written.read()
     print('\n'.join(it for it in wrote.splitlines() if not it[:1].isdigit()))
     took.sort()
     print('%d blows, recovered after %.3f s in the middle and %.3f s at most, late %s; %d KB at the end, status %s' % (
