@@ -4,8 +4,8 @@
 usage: packaging/build.py [--sources CHECKOUT] [--to FOLDER] [--cpu CPU ..] [--jobs N] [CRATE ..]
 
 Of each CRATE (all that a release has, where none is named) the crate itself is checked once more for each processor, over the libraries that rt ci kept
-of these very files, and what was checked is built: FOLDER/CPU/NAME.o, the object file of a program, or FOLDER/CPU/NAME.a, NAME.s and NAME.bc, archive, text and
-LLVM's module of the library, with NAME.json, which has the prover's last line and says of what it was made. Nothing below the crate is proved again, and nothing is written
+of these very files, and what was checked is built: FOLDER/CPU/NAME.o, the object file of a program, or FOLDER/CPU/NAME.a and NAME.s, archive and text of the
+library, with LLVM's module NAME.bc, and NAME.json, which has the prover's last line and says of what it was made. Nothing below the crate is proved again, and nothing is written
 to the checkout. Needs the kit; the target's C library is not asked for.
 """
 from __future__ import annotations
@@ -107,7 +107,7 @@ class Builder:
             self.rattle("build", name, *words, "--crate-checked", room / "checked", "--toolchain", toolchain(self.kit, room), "--backend", "llvm", "-o", to)
             if to.suffix == ".a":
                 assembly(self.kit, room, to.with_suffix(".s"))
-                shutil.copyfile(room / "module.bc", to.with_suffix(".bc"))
+            shutil.copyfile(room / "module.bc", to.with_suffix(".bc"))
         end(to, self.made, verdict)
         print(f"{name} for {target.cpu}: proved in {proved - begun:.0f} s, built in {time.monotonic() - proved:.0f} s, {to.stat().st_size} bytes", flush=True)
 
