@@ -1,12 +1,12 @@
 #!/usr/bin/env python3
 """Builds the pages of pages/src, each into one file that opens from the disk: the modules in the order of their imports, the style, and the page around them.
 
-usage: pages/build.py [--check] [--module FILE] [--to FOLDER] [timeline] [playground]
+usage: pages/build.py [--check] [--modules FOLDER] [--to FOLDER] [timeline] [playground] [storm]
 
-timeline is pages/timeline.html, and all that is built where no page is named. playground, which runs scripts, also has the module of WebAssembly that
-packaging/wasm.py made (packaging/out/wasm/mdb.wasm, or FILE): it is written to pages/playground.html where that module was proved, and else to
-pages/out, and FOLDER takes either. Each module's imports are dropped and its exports made plain, so all stand in one scope: a name that two modules declare is refused. With
---check nothing is written, and the status is 1 where pages/timeline.html is not what the sources build.
+timeline is pages/timeline.html, and all that is built where no page is named. playground, which runs scripts and programs, and storm, which runs the simulation of
+examples/storm, also have the modules of WebAssembly that packaging/wasm.py made (packaging/out/wasm, or FOLDER): they are written to pages where those were
+proved, and else to pages/out, and the other FOLDER takes any. Each module's imports are dropped and its exports made plain, so all stand in one scope: a name that
+two modules declare is refused. With --check nothing is written, and the status is 1 where pages/timeline.html is not what the sources build.
 """
 import argparse
 import base64
@@ -19,9 +19,15 @@ import sys
 HERE = os.path.dirname(os.path.abspath(__file__))
 SOURCES = os.path.join(HERE, 'src')
 EXAMPLES = os.path.join(HERE, 'examples')
+CRATES = os.path.join(HERE, os.pardir, 'crates')
 PAGE = os.path.join(HERE, 'timeline.html')
-MODULE = os.path.join(HERE, os.pardir, 'packaging', 'out', 'wasm', 'mdb.wasm')
-ROOTS = {'timeline': 'app.js', 'playground': 'playground.js'}
+MADE = os.path.join(HERE, os.pardir, 'packaging', 'out', 'wasm')
+ROOTS = {'timeline': 'app.js', 'playground': 'playground.js', 'storm': 'storm.js'}
+# The modules of WebAssembly, the examples and the further style that each page has.
+CARRIED = {'timeline': (), 'playground': ('mdb', 'mdb_auditor', 'mdb_recorded', 'mdb_fleet', 'mdb_proxy'), 'storm': ('storm',)}
+SHOWN = {'timeline': '.log', 'playground': '.script', 'storm': '/'}
+# The stored inputs of the programs, by the names that the playground gives them.
+STORED = {'judged.log': 'mdb_auditor', 'findings.jsonl': 'mdb_recorded', 'members.fleet': 'mdb_fleet', 'shares.proxy': 'mdb_proxy'}
 IMPORT = re.compile(r"^import [^;]*? from '\./(\w+\.js)';\n", re.MULTILINE)
 EXPORT_LIST = re.compile(r'^export \{[^}]*\};\n', re.MULTILINE)
 DECLARED = re.compile(r'^(?:export )?(?:async )?(?:function|class|const|let) (\w+)', re.MULTILINE)
@@ -65,9 +71,12 @@ def built(name='timeline', more=None):
     modules = [plain(it, owners) for it in in_order(ROOTS[name], {})]
     script = "'use strict';\n(() => {\n" + '\n'.join(modules) + '})();'
     page = INCLUDED.sub(lambda found: read(found[1]), read(name + '.html'))
-    examples = data({it: read(it, EXAMPLES) for it in sorted(os.listdir(EXAMPLES)) if it.endswith('.log' if name == 'timeline' else '.script')})
-    style = read('page.css') + (read('playground.css') if name == 'playground' else '')
-    places = {'/*STYLE*/': style, '/*SCRIPT*/': script.replace('</script', '<\\/script'), '/*EXAMPLES*/': examples, **(more or {})}
+    examples = {it: read(it, EXAMPLES) for it in sorted(os.listdir(EXAMPLES)) if it.endswith(SHOWN[name])}
+    if name == 'playground':
+        examples.update({it: read('stdin', os.path.join(CRATES, program)) for it, program in STORED.items()})
+    own = name + '.css'
+    style = read('page.css') + (read(own) if os.path.exists(os.path.join(SOURCES, own)) else '')
+    places = {'/*STYLE*/': style, '/*SCRIPT*/': script.replace('</script', '<\\/script'), '/*EXAMPLES*/': data(examples), **(more or {})}
     for place, text in places.items():
         page = page.replace(place, text)
     return page
@@ -80,23 +89,30 @@ def write(path, text):
     print('%s: %d bytes' % (os.path.relpath(path), len(text.encode())))
 
 
-def playground(module, folder):
-    """The page that runs scripts, with the module and what is said of it."""
-    with open(module, 'rb') as file:
-        packed = base64.b64encode(gzip.compress(file.read(), LEVEL, mtime=0)).decode()
-    with open(os.path.splitext(module)[0] + '.json', encoding='utf-8') as file:
-        made = json.load(file)
-    about = {key: made[key] for key in ('commit', 'changed', 'proved', 'compiler', 'lowered')}
-    home = HERE if made['proved'] and not made['changed'] else os.path.join(HERE, 'out')
-    write(os.path.join(folder or home, 'playground.html'), built('playground', {'/*MODULE*/': packed, '/*ABOUT*/': data(about)}))
+def carried(name, folder):
+    """The modules of a page, packed, and what is said of each."""
+    packed, about = {}, {}
+    for module in CARRIED[name]:
+        with open(os.path.join(folder, module + '.wasm'), 'rb') as file:
+            packed[module] = base64.b64encode(gzip.compress(file.read(), LEVEL, mtime=0)).decode()
+        with open(os.path.join(folder, module + '.json'), encoding='utf-8') as file:
+            made = json.load(file)
+        about[module] = {key: made[key] for key in ('commit', 'changed', 'proved', 'compiler', 'lowered')}
+    return packed, about
+
+
+def page_with_modules(name, modules, folder):
+    packed, about = carried(name, modules)
+    is_whole = all(it['proved'] and not it['changed'] for it in about.values())
+    write(os.path.join(folder or (HERE if is_whole else os.path.join(HERE, 'out')), name + '.html'), built(name, {'/*MODULES*/': data(packed), '/*ABOUT*/': data(about)}))
 
 
 def main():
     reader = argparse.ArgumentParser(description=__doc__, formatter_class=argparse.RawDescriptionHelpFormatter)
     reader.add_argument('--check', action='store_true', help='write nothing, and say whether the timeline is up to date')
-    reader.add_argument('--module', default=MODULE, help='what packaging/wasm.py made')
+    reader.add_argument('--modules', default=MADE, help='what packaging/wasm.py made')
     reader.add_argument('--to', help='the folder for the pages')
-    reader.add_argument('pages', nargs='*', metavar='PAGE', help='timeline, playground')
+    reader.add_argument('pages', nargs='*', metavar='PAGE', help=', '.join(ROOTS))
     given = reader.parse_args()
     if given.check:
         with open(PAGE, encoding='utf-8') as file:
@@ -104,8 +120,8 @@ def main():
     for name in given.pages or ['timeline']:
         if name not in ROOTS:
             reader.error('no page ' + name)
-        if name == 'playground':
-            playground(given.module, given.to)
+        if CARRIED[name]:
+            page_with_modules(name, given.modules, given.to)
         else:
             write(os.path.join(given.to, 'timeline.html') if given.to else PAGE, built())
     return 0

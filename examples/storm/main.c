@@ -98,7 +98,9 @@ static void write_sums(const struct run *runs, size_t count) {
 }
 
 static void write_samples(const struct run *runs, size_t count) {
-    puts("run,moment,liveA,liveB,liveC,pendingA,pendingB,pendingC,selecting,queued,running,done,failed,opened");
+    fputs("run", stdout);
+    for (size_t i = 0; storm_sample_name(i); i++) printf(",%s", storm_sample_name(i));
+    puts("");
     for (size_t run = 0; run < count; run++)
         for (size_t i = 0; i < runs[run].count; i++) {
             uint32_t values[sizeof(storm_sample) / sizeof(uint32_t)];

@@ -5,10 +5,20 @@
 enum { STRETCH = 100 * MILLISECOND }; /* for so long no more may wait than before, or it is no recovery */
 
 static const char *const names[SUMS] = {
-    "asked", "done", "failed", "retried", "left", "network", "notPrimary", "poolCleared", "connect", "waitQueueTimeout", "serverSelection", "gapUS", "firstKnowsUS", "lastKnowsUS",
+    "asked", "done", "failed", "retried", "left", "network", "notPrimary", "poolCleared", "connect", "waitQueueTimeout", "serverSelection", "calm", "gapUS", "firstKnowsUS", "lastKnowsUS",
     "recoveredUS", "pendingMost", "opened", "liveMost", "acceptMostUS", "waitingMost", "waitsBefore", "waitsBeforeP50US", "waitsBeforeP99US", "waitsBeforeMostUS", "waitsGap",
     "waitsGapP50US", "waitsGapP99US", "waitsGapMostUS", "waitsAfter", "waitsAfterP50US", "waitsAfterP99US", "waitsAfterMostUS", "events", "steps",
 };
+
+static const char *const sample_names[] = {
+    "moment", "liveA", "liveB", "liveC", "pendingA", "pendingB", "pendingC", "selecting", "queued", "running", "done", "failed", "opened",
+};
+
+enum { SAMPLE_NAMES = sizeof sample_names / sizeof *sample_names };
+
+_Static_assert(sizeof(storm_sample) == SAMPLE_NAMES * sizeof(uint32_t), "each member has its name");
+
+const char *storm_sample_name(size_t place) { return place < SAMPLE_NAMES ? sample_names[place] : NULL; }
 
 const char *storm_sum_name(size_t place) { return place < SUMS ? names[place] : NULL; }
 
@@ -45,7 +55,7 @@ static void is_most(uint64_t *most, uint64_t it) {
 
 /* Whether the waiting callers are again as few as in the second before the failure, for a stretch of time. */
 static void look_for_recovery(storm *it, uint64_t waiting) {
-    if (waiting > it->calm) it->calm_since = NEVER;
+    if (waiting > it->sums[SUM_CALM]) it->calm_since = NEVER;
     else if (it->calm_since == NEVER) it->calm_since = it->now;
     else if (it->now - it->calm_since >= STRETCH) it->sums[SUM_RECOVERED] = it->calm_since;
 }
@@ -53,7 +63,7 @@ static void look_for_recovery(storm *it, uint64_t waiting) {
 void look(storm *it) {
     uint64_t waiting = (uint64_t)it->here.selecting + it->here.queued, fails_at = it->given.fails_at * (uint64_t)MILLISECOND;
     if (it->now < fails_at) {
-        if (it->now + SECOND >= fails_at) is_most(&it->calm, waiting);
+        if (it->now + SECOND >= fails_at) is_most(&it->sums[SUM_CALM], waiting);
         return;
     }
     is_most(&it->sums[SUM_PENDING_MOST], it->here.pending[SUCCESSOR]);

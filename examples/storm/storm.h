@@ -23,6 +23,7 @@ typedef struct storm_sample {
 enum storm_sum {
     SUM_ASKED, SUM_DONE, SUM_FAILED, SUM_RETRIED, SUM_LEFT, /* operations; the last: that have not ended */
     SUM_NETWORK, SUM_NOT_PRIMARY, SUM_CLEARED, SUM_CONNECT, SUM_WAIT_QUEUE, SUM_SELECTION, /* errors of attempts */
+    SUM_CALM,         /* operations that waited at once in the second before the failure, at most */
     SUM_GAP,          /* from the failure to the election */
     SUM_FIRST_KNOWS, SUM_LAST_KNOWS, SUM_RECOVERED, /* moments: the first and the last driver that knows the successor; recovery; 0 where it did not come */
     SUM_PENDING_MOST, /* connections to the successor that were being established at once, from the failure on */
@@ -47,8 +48,9 @@ enum { STORM_MORE, STORM_ENDED, STORM_NO_MEMORY, STORM_FAULT };
 /* Goes on for so many events. STORM_FAULT where the library refused a step that it should not: the run is of no use then. */
 int storm_go(storm *it, uint64_t events);
 
-/* The samples so far. */
+/* The samples so far, and the name of the member of this place; nothing behind the last one. */
 const storm_sample *storm_samples(const storm *it, size_t *count);
+const char *storm_sample_name(size_t place);
 
 /* The sums of a run that ended, one for each place: NULL where there is no memory. */
 const uint64_t *storm_sums(storm *it);

@@ -76,8 +76,8 @@ struct storm {
     size_t samples_count, samples_room;
     uint64_t *waits; /* four times the microseconds, and the phase */
     size_t waits_count, waits_room;
-    uint64_t calm, calm_since; /* how many waited at most before the failure, and since when no more do */
-    uint32_t knowing;          /* drivers that know the successor */
+    uint64_t calm_since; /* since when no more wait than before the failure, or NEVER */
+    uint32_t knowing;    /* drivers that know the successor */
     uint64_t sums[SUMS];
 };
 

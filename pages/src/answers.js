@@ -15,7 +15,7 @@ export function answerScripts(app, page) {
     view: () => ({ ...app.picture.view, axis: app.picture.scale?.axis, scroll: page.scroll.scrollTop, height: app.picture.height, whole: app.picture.scale?.extent() }),
     select: (entry) => app.view.go(entry, null),
     selected: () => ({ entry: app.picture.entry, thing: app.picture.thing === null ? null : thingName(app.picture.thing), lit: [...app.picture.lit].map(thingName).sort() }),
-    log: () => app.entries?.join('') ?? app.picture.log?.text ?? '',
+    log: () => app.output ?? app.picture.log?.text ?? '',
     times: () => app.times ?? null,
     where: (kind, key, entry) => app.picture.where(kind, key, entry),
   };

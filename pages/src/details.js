@@ -1,12 +1,7 @@
 // The selected entry: its text by its parts, with what it names as buttons, and the life of what was picked.
 import { thingOf } from './names.js';
 import { thingName, stateText, lifeOf, momentText } from './say.js';
-
-export function element(tag, properties = {}, ...children) {
-  const made = Object.assign(document.createElement(tag), properties);
-  made.append(...children);
-  return made;
-}
+import { element } from './element.js';
 
 const MOST_NAMED = 12;
 

@@ -1,6 +1,6 @@
 // Where a script is written: its lines with their numbers, the one that is wrong, and words that complete what was begun.
-import { element } from './details.js';
-import { hintAt } from './hints.js';
+import { element } from './element.js';
+import { hintAt, scriptHints } from './hints.js';
 
 const LINE_HEIGHT = 20; // pixels
 
@@ -9,6 +9,7 @@ export class Editor {
     this.page = page;
     this.moved = moved;
     this.count = 0;
+    this.hints = scriptHints; // what may stand in the text
     page.script.addEventListener('input', () => {
       this.number();
       this.hint();
@@ -23,7 +24,8 @@ export class Editor {
     return this.page.script.value;
   }
 
-  set(text) {
+  set(text, hints) {
+    this.hints = hints;
     this.page.script.value = text;
     this.page.script.setSelectionRange(0, 0);
     this.page.script.scrollTop = 0;
@@ -52,9 +54,10 @@ export class Editor {
     this.scroll();
   }
 
-  /** Marks the wrong line, and says what is wrong with it. */
-  mark(fault, reason) {
+  /** Marks the wrong line, { line, reason }, and says what is wrong with it. */
+  mark(fault) {
     const { page } = this;
+    const reason = fault === null ? '' : fault.reason;
     this.band(page.wrongband, fault === null ? -1 : fault.line);
     page.script.setAttribute('aria-invalid', String(fault !== null));
     if (page.wrong.textContent !== reason) page.wrong.textContent = reason;
@@ -81,7 +84,7 @@ export class Editor {
   hint() {
     const { page } = this;
     const place = page.script.selectionStart;
-    this.now = hintAt(this.text, place);
+    this.now = hintAt(this.text, place, this.hints);
     const buttons = this.now.words.map((word) => {
       const button = element('button', { type: 'button', textContent: word.trim(), tabIndex: -1 });
       button.addEventListener('pointerdown', (event) => {

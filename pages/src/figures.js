@@ -1,5 +1,5 @@
 // The numbers that a reader wants first, and the sums of requests before, in and behind the times without a primary.
-import { element } from './details.js';
+import { element } from './element.js';
 import { figuresOf } from './outages.js';
 import { sumsOf } from './sums.js';
 import { durationText } from './scale.js';

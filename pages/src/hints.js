@@ -1,5 +1,6 @@
 // What may stand where somebody writes in a script: the shape of the line, and words that complete the one that was begun.
 import { STEP_WORDS, FIELD_NAMES, OPTION_NAMES } from './steps.js';
+import { FLEET_WORDS, PROXY_WORDS, PROXY_STEPS } from './made_up_lines.js';
 
 const WORD_SHAPES = {
   party: 'PARTY', address: 'ADDR', pool: 'POOL', connection: 'CONN', watcher: 'WATCHER', number: 'N', addresses: 'ADDR,ADDR..', use: 'ok|errored|dropped|streaming',
@@ -41,12 +42,40 @@ function candidates(words, text) {
   return at - 2 >= names.length ? tailWords(words, names.length + 2) : [];
 }
 
-/** What stands at a place of a script: the shape of its line, the word that was begun, and what it may become. */
-export function hintAt(text, place) {
+/** The shapes and words of lines that a table names beside, or in place of, those of a script. */
+function shapeIn(table, first, kind) {
+  if (Object.hasOwn(table, kind)) return [kind, 'MOMENT', ...table[kind].map((it) => (it === 'USE' ? WORD_SHAPES.use : it))].join(' ');
+  return first.find((it) => it.startsWith(kind + ' ') || it.startsWith(kind + '=')) ?? '';
+}
+
+function wordsIn(table, words, text) {
+  const name = table[words[0]]?.[words.length - 3];
+  if (name === 'ADDR') return [...new Set(text.match(WRITTEN_ADDRESS) ?? [])].sort();
+  return name === 'USE' ? USE_WORDS : [];
+}
+
+export const scriptHints = { shapeOf, candidates };
+export const noHints = { shapeOf: () => '', candidates: () => [] };
+
+export const fleetHints = {
+  shapeOf: (kind) => shapeIn(FLEET_WORDS, ['fleet MEMBERS'], kind),
+  candidates: (words) => (words.length === 1 ? ['fleet ', ...Object.keys(FLEET_WORDS).map((it) => it + ' ')] : []),
+};
+
+export const proxyHints = {
+  shapeOf: (kind) => shapeIn(PROXY_WORDS, ['shares=N,N..'], kind) || (kind === 'open' || PROXY_STEPS.includes(kind) ? shapeOf(kind) : ''),
+  candidates(words, text) {
+    if (words.length === 1) return ['shares=', 'open seeds=', ...Object.keys(PROXY_WORDS).map((it) => it + ' '), ...PROXY_STEPS.map((it) => it + ' ')];
+    return Object.hasOwn(PROXY_WORDS, words[0]) ? wordsIn(PROXY_WORDS, words, text) : candidates(words, text);
+  },
+};
+
+/** What stands at a place of a text: the shape of its line, the word that was begun, and what it may become. */
+export function hintAt(text, place, hints = scriptHints) {
   const start = text.lastIndexOf('\n', place - 1) + 1;
   const words = text.slice(start, place).split(' ');
   const begun = words[words.length - 1];
   const isAtEnd = ['', ' ', '\n'].includes(text.charAt(place)); // of a word: nothing is put into one
-  const found = isAtEnd ? candidates(words, text).filter((it) => it.startsWith(begun) && it.trim() !== begun) : [];
-  return { shape: shapeOf(/^\w*/.exec(text.slice(start))[0]), begun, words: found.slice(0, MOST_WORDS) };
+  const found = isAtEnd ? hints.candidates(words, text).filter((it) => it.startsWith(begun) && it.trim() !== begun) : [];
+  return { shape: hints.shapeOf(/^\w*/.exec(text.slice(start))[0]), begun, words: found.slice(0, MOST_WORDS) };
 }

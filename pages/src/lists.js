@@ -1,5 +1,5 @@
 // Long lists of entries to jump to: only the rows in view are in the page.
-import { element } from './details.js';
+import { element } from './element.js';
 
 const SHAPE = { row: 44, most: 230 }; // pixels: of a row, which has two lines of text, and of the list
 const MORE = 4; // rows above and below those in view

@@ -1,5 +1,5 @@
 // The log of a script as a list: an entry a row, of which only those in view are in the page.
-import { element } from './details.js';
+import { element } from './element.js';
 import { JumpList } from './lists.js';
 
 const ROW_HEIGHT = 20; // pixels
@@ -18,7 +18,8 @@ export class LogList extends JumpList {
   row(at) {
     const row = this.frame(at);
     const parts = this.items[at].text.slice(0, MOST_SHOWN).split(' | ');
-    row.append(element('span', { className: 'number', textContent: String(at + 1) }));
+    const { entry } = this.items[at];
+    row.append(element('span', { className: 'number', textContent: entry < 0 ? '' : String(entry + 1) }));
     parts.forEach((part, place) => {
       row.append(place > 0 ? element('i', { textContent: ' | ' }) : ' ', place < 2 ? element('b', { className: ['step', 'reply'][place], textContent: part }) : part);
     });

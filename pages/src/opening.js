@@ -2,6 +2,7 @@
 import { Log, readLines } from './reader.js';
 import { History } from './history.js';
 import { RecordingLog, isRecording, readRecorded } from './recording.js';
+import { packedText, unpacked } from './packing.js';
 
 const PORTION = 25000; // lines that are read before the page may do other things
 
@@ -41,33 +42,16 @@ export function readNow(name, text, reader) {
   return ended(all);
 }
 
-function bytesOf(text) {
-  const plain = atob(text.replaceAll('-', '+').replaceAll('_', '/'));
-  return Uint8Array.from(plain, (letter) => letter.charCodeAt(0));
-}
-
-const through = (bytes, stream) => new Response(new Blob([bytes]).stream().pipeThrough(stream));
-
-/** What base64 of gzip has packed. */
-export const unpacked = (text) => through(bytesOf(text), new DecompressionStream('gzip'));
-
-/** A text as base64 of gzip, in letters that an address may have. */
-async function packedText(text) {
-  const bytes = new Uint8Array(await through(new TextEncoder().encode(text), new CompressionStream('gzip')).arrayBuffer());
-  const letters = Array.from(bytes, (it) => String.fromCharCode(it)).join('');
-  return btoa(letters).replaceAll('+', '-').replaceAll('/', '_').replaceAll('=', '');
-}
-
 /** A fragment that holds a text of this kind, and the words beside it. */
 export async function fragmentOf(kind, text, words) {
   const whole = typeof CompressionStream === 'undefined' ? [kind, encodeURIComponent(text)] : ['gzip', await packedText(text)];
   return '#' + [...Object.entries(words).map(([name, value]) => [name, encodeURIComponent(value)]), whole].map((it) => it.join('=')).join('&');
 }
 
-/** The text of a fragment: #log=TEXT with percent escapes, where `log` is its kind, or #gzip=BASE64; `name`, `axis` and `entry` may stand beside it. */
+/** The text of a fragment: #log=TEXT with percent escapes, where `log` is its kind, or #gzip=BASE64; `name`, `axis`, `entry` and `tab` may stand beside it. */
 export async function fromFragment(fragment, kind = 'log') {
   const words = new Map(fragment.replace(/^#/, '').split('&').map((it) => [it.slice(0, it.indexOf('=')), it.slice(it.indexOf('=') + 1)]));
-  const said = { name: decodeURIComponent(words.get('name') ?? `a ${kind} from the address`), axis: words.get('axis'), entry: words.get('entry') };
+  const said = { name: decodeURIComponent(words.get('name') ?? `a ${kind} from the address`), axis: words.get('axis'), entry: words.get('entry'), tab: words.get('tab') };
   if (words.has(kind)) return { ...said, text: decodeURIComponent(words.get(kind)) };
   if (words.has('gzip')) return { ...said, text: await (await unpacked(words.get('gzip'))).text() };
   return null;

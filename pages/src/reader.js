@@ -4,7 +4,7 @@ import { readStep } from './steps.js';
 import { readReply, readFact } from './facts.js';
 import { partsOf } from './names.js';
 
-const UNPRINTABLE = /[^ -~]/;
+export const UNPRINTABLE = /[^ -~]/;
 
 /** The entry that a line shows. Facts that follow each other are in `facts`; a throw says why there is none. */
 export function readEntry(line) {

@@ -26,7 +26,8 @@ export class RecordingLog extends Log {
 
   /** The members of an event as the words of an entry. */
   parts(at) {
-    const { pool, party } = this.told.get(at) ?? {};
+    if (!this.told.has(at)) return super.parts(at);
+    const { pool, party } = this.told.get(at);
     const names = { address: (value) => ({ kind: 'address', key: value }), connectionId: (value) => (pool === undefined ? null : { kind: 'connection', key: `${pool}.${value}` }) };
     const tokens = Object.entries(JSON.parse(this.line(at))).map(([key, value]) => ({ text: key + '=' + (typeof value === 'string' ? value : JSON.stringify(value)), names: names[key]?.(value) ?? null }));
     if (party !== undefined) tokens.push({ text: 'check-out ' + party, names: { kind: 'party', key: party } });

@@ -10,9 +10,9 @@ import { showFigures, showSums } from './figures.js';
 import { durationText } from './scale.js';
 import { pictureFile } from './picture_file.js';
 import { saved } from './saving.js';
+import { followThemes } from './themes.js';
 
 const SIGNS = { clear: '▼', raise: '▿', refusal: '✕', error: '◆', 'void error': '◇', 'failed check': '▽' };
-const THEMES = ['auto', 'light', 'dark'];
 const NOT_WRITTEN = new Set(['checkbox', 'radio', 'button', 'file', 'range']);
 
 /** Whether a key pressed here is a letter of a text. */
@@ -31,7 +31,6 @@ export class View {
     this.unread = new JumpList(page.unread, 'Lines that could not be read', (item) => this.go(item.entry, null));
     this.lists = [this.jumps, this.found, this.unread];
     this.input = new Input(page, this.picture, this);
-    this.theme = 0;
     this.followers = []; // who wants to hear which entry is selected
     this.keys = {}; // further keys of the page
     this.bind();
@@ -45,7 +44,6 @@ export class View {
     page.wider.addEventListener('click', () => picture.log && picture.zoom(1 / 1.5));
     page.fit.addEventListener('click', () => picture.log && picture.fit());
     page.bars.addEventListener('click', () => this.toggleBars());
-    page.themes.addEventListener('click', () => this.nextTheme());
     page.mark.addEventListener('click', () => this.mark());
     page.onlyserver.addEventListener('change', () => this.filterBy({ address: page.onlyserver.value }));
     page.onlyfailed.addEventListener('change', () => this.filterBy({ isFailed: page.onlyfailed.checked }));
@@ -61,7 +59,7 @@ export class View {
     for (const box of page.kinds.querySelectorAll('input')) box.addEventListener('change', () => this.showJumps());
     document.addEventListener('keydown', (event) => this.key(event));
     new ResizeObserver(() => picture.log && picture.resize()).observe(page.scroll);
-    matchMedia('(prefers-color-scheme: dark)').addEventListener('change', () => picture.log && picture.resize());
+    followThemes(page.themes, () => picture.log && picture.resize());
   }
 
   /** Draws another log, or one that was changed a little. */
@@ -95,16 +93,6 @@ export class View {
     this.picture.areBarsShown = !this.picture.areBarsShown;
     this.page.bars.setAttribute('aria-pressed', String(this.picture.areBarsShown));
     if (this.picture.log) this.picture.arrange();
-  }
-
-  nextTheme() {
-    const { page } = this;
-    this.theme = (this.theme + 1) % THEMES.length;
-    const name = THEMES[this.theme];
-    document.documentElement.dataset.theme = name;
-    page.themes.textContent = '◐ ' + name;
-    page.themes.setAttribute('aria-label', 'Theme: ' + name);
-    if (this.picture.log) this.picture.resize();
   }
 
   showJumps() {
