@@ -90,7 +90,7 @@ class Browser:
         self.call('Page.navigate', url='about:blank')
         self.wait('location.href === "about:blank"')
         self.call('Page.navigate', url=address)
-        self.wait('window.timeline !== undefined')
+        self.wait('window.timeline !== undefined || window.storm !== undefined')
 
     def wait(self, condition, seconds=30):
         until = time.time() + seconds

@@ -4,8 +4,8 @@
 usage: checks/page_playground.py [--browser PROGRAM] [--page FILE] [--pictures FOLDER]
 
 FILE is what pages/build.py built: pages/playground.html where it is there, else pages/out/playground.html. Needs chromium and nothing else. The log of the failover
-is to be that of pages/examples, byte for byte; a wrong line is marked and told, and the lines before it are run; steps, links, words that are completed, both themes
-and widths from 390 to 2560 pixels are tried; of a script of 2,000 lines a key is to take 100 milliseconds of a processor at most; where a browser has no
+is to be that of pages/examples, byte for byte; a wrong line is marked and told with its reason, and the lines before it are run; each program is to write what is stored
+beside its crate, in its tab; steps, links, words that are completed, tabs by keys, both themes and widths from 390 to 2560 pixels are tried; of a script of 2,000 lines a key is to take 100 milliseconds of a processor at most; where a browser has no
 WebAssembly the page says so. The status is 0 where no check failed, 1 where one did, 2 where something is missing.
 """
 import argparse
@@ -42,8 +42,13 @@ def log(checks):
     return checks.ask('timeline.log()')
 
 
+def example(checks, name):
+    checks.ask('(() => { const it = document.getElementById("examples"); it.value = "%s"; it.dispatchEvent(new Event("change")); })()' % name)
+    checks.browser.settle()
+
+
 def failover(checks):
-    checks.ask('(() => { const it = document.getElementById("examples"); it.value = "failover.script"; it.dispatchEvent(new Event("change")); })()')
+    example(checks, 'failover.script')
     checks.equal('the log of the failover', log(checks) == stored('pages', 'examples', 'failover.log'), True)
     checks.equal('no line is wrong', text(checks, 'wrong'), '')
     checks.equal('its timeline has no complaint', checks.timeline('unread()'), [])
@@ -53,7 +58,7 @@ def failover(checks):
 
 def wrong(checks):
     write(checks, 'open seeds=a:1\nhello 1 a:1 0 ok rtt=5 maxWireVersion=21\nreqest 2 1 a:1\nclaim 3\n')
-    checks.equal('a wrong line', text(checks, 'wrong'), 'line 3 is malformed')
+    checks.equal('a wrong line', text(checks, 'wrong'), "line 3 is malformed: no step: 'reqest 2 1 a:1'")
     checks.equal('the lines before it', log(checks).count('\n'), 2)
     checks.equal('its mark', checks.ask('document.getElementById("wrongband").dataset.line'), '2')
     checks.equal('it is told to a reader of the screen', checks.ask('document.getElementById("script").getAttribute("aria-invalid")'), 'true')
@@ -63,6 +68,66 @@ def wrong(checks):
     checks.equal('a second opening', text(checks, 'wrong'), 'line 2 opens once more')
     write(checks, '')
     checks.equal('an empty script', (log(checks), text(checks, 'wrong')), ('', ''))
+
+
+STORED = {'verdict': ('judged.log', 'mdb_auditor'), 'recording': ('findings.jsonl', 'mdb_recorded'), 'fleet': ('members.fleet', 'mdb_fleet'), 'tenants': ('shares.proxy', 'mdb_proxy')}
+
+
+def tab(checks, name):
+    checks.ask('document.getElementById("tab-%s").click()' % name)
+    checks.browser.settle()
+
+
+def programs(checks):
+    """Each program writes in its tab what the native one wrote to standard output."""
+    for name, (stored_as, crate) in STORED.items():
+        tab(checks, name)
+        example(checks, stored_as)
+        checks.equal('what %s writes' % crate, log(checks), stored('crates', crate, 'stdout'))
+        checks.equal('the tab of ' + crate, checks.ask('document.querySelector("[role=tab][aria-selected=true]").id'), 'tab-' + name)
+        checks.equal('the picture of ' + crate, checks.ask('document.getElementById("view").offsetHeight > 0'), name in ('verdict', 'recording'))
+        page_looks.names(checks)
+        checks.keep('playground-' + name)
+    tab(checks, 'fleet')
+    write(checks, 'fleet 3\nelect 1 0\nelct 2 0\n')
+    checks.equal('a wrong event', (text(checks, 'wrong'), log(checks).count('\n')), ("line 3 is malformed: no event: 'elct 2 0'", 1))
+    tab(checks, 'tenants')
+    write(checks, 'shares=2,1\nopen seeds=a:1 lb max=2\n')
+    checks.equal('too great shares', text(checks, 'wrong'), "line 2 is malformed: fewer connections than the shares, 3: 'open seeds=a:1 lb max=2'")
+    write(checks, 'shares=1,1\nopen seeds=a:1 lb max=2\nask 0 0 1 a:1\nfini')
+    checks.browser.key(' ', CTRL)
+    checks.equal('a word of a proxy that is completed', checks.ask('document.getElementById("script").value').split('\n')[3], 'finish ')
+    tab(checks, 'script')
+
+
+def verdicts(checks):
+    failover(checks)
+    checks.browser.wait('document.getElementById("verdict").textContent !== ""')
+    checks.equal('the verdict of the log', text(checks, 'verdict'), 'mdb_auditor: legal entries=177')
+    checks.ask('document.getElementById("judge").click()')
+    changed = stored('pages', 'examples', 'failover.log').replace('Granted 5 ', 'Granted 6 ', 1)
+    entry = next(at for at, line in enumerate(changed.split('\n')) if 'Granted 6 ' in line)
+    write(checks, changed)
+    checks.equal('the verdict of a log that was changed', log(checks), 'bad entry=%d why=grant\n' % (entry + 1))
+    checks.true('its reason', text(checks, 'wrong').startswith('entry %d: a connection is granted' % (entry + 1)), text(checks, 'wrong'))
+    checks.equal('the mark of the entry', checks.ask('document.getElementById("wrongband").dataset.line'), str(entry))
+    tab(checks, 'script')
+    checks.equal('the script is as it was', log(checks), stored('pages', 'examples', 'failover.log'))
+
+
+def tabs_by_keys(checks):
+    checks.ask('document.getElementById("tab-script").focus()')
+    found = []
+    for _ in range(5):
+        checks.browser.key('ArrowRight')
+        checks.browser.settle()
+        found.append(checks.ask('document.activeElement.id'))
+    checks.equal('tabs by keys', found, ['tab-verdict', 'tab-recording', 'tab-fleet', 'tab-tenants', 'tab-script'])
+    tab(checks, 'fleet')
+    example(checks, 'members.fleet')
+    checks.ask('document.getElementById("first").click(); document.getElementById("forth").click()')
+    checks.equal('steps without a picture', (text(checks, 'at'), checks.ask('document.getElementById("lineband").dataset.line')), ('3 of 15', '2'))
+    tab(checks, 'script')
 
 
 def words(checks):
@@ -92,6 +157,14 @@ def link(checks):
     checks.browser.goto(checks.ask('location.href'))
     checks.browser.wait('timeline.log() !== ""')
     checks.equal('a link holds the script and the step', (log(checks).count('\n'), checks.timeline('selected()')['entry']), (2, 1))
+    tab(checks, 'fleet')
+    write(checks, 'fleet 2\nelect 1 0\n')
+    checks.ask('document.getElementById("link").click()')
+    checks.browser.wait('location.hash.includes("tab=fleet")')
+    checks.browser.goto(checks.ask('location.href'))
+    checks.browser.wait('timeline.log() !== ""')
+    checks.equal('a link holds the tab', (checks.ask('document.querySelector("[role=tab][aria-selected=true]").id'), log(checks).count('\n')), ('tab-fleet', 1))
+    tab(checks, 'script')
 
 
 def long_script():
@@ -149,7 +222,7 @@ def without(checks):
 
 def run(checks):
     checks.browser.wait('timeline.log() !== ""')
-    for part in (failover, wrong, words, steps, link, answers, looks, without):
+    for part in (failover, wrong, words, verdicts, programs, tabs_by_keys, steps, link, answers, looks, without):
         part(checks)
     checks.equal('the page complained of nothing in its own log', checks.browser.faults(), [])
     checks.equal('the page asked only for itself', set(checks.browser.requested()) - {'file', 'about', 'data', 'blob'}, set())

@@ -42,8 +42,8 @@ class Storm {
       this.changed([], {});
     });
     page.link.addEventListener('click', () => this.copyLink());
-    page.samples.addEventListener('click', () => this.runs && saved('storm-samples.csv', new Blob([samplesText(this.runs)], { type: 'text/csv' })));
-    page.sums.addEventListener('click', () => this.runs && saved('storm-numbers.csv', new Blob([sumsText(this.runs)], { type: 'text/csv' })));
+    page.savesamples.addEventListener('click', () => this.runs && saved('storm-samples.csv', new Blob([samplesText(this.runs)], { type: 'text/csv' })));
+    page.savenumbers.addEventListener('click', () => this.runs && saved('storm-numbers.csv', new Blob([sumsText(this.runs)], { type: 'text/csv' })));
     window.addEventListener('hashchange', () => this.openFragment());
     new ResizeObserver(() => this.charts.paint()).observe(page.charts);
     followThemes(page.themes, () => this.charts.paint());

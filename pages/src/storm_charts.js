@@ -22,7 +22,7 @@ const CHARTS = [
   {
     title: 'Waiting callers', series: [
       { name: 'for a connection', colour: 'waiting', kind: 'area', of: (it) => it.queued },
-      { name: 'for a primary', colour: 'none', kind: 'area', of: (it) => it.selecting },
+      { name: 'for a primary', colour: 'pinned', kind: 'area', of: (it) => it.selecting },
     ],
   },
   {

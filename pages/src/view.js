@@ -58,8 +58,13 @@ export class View {
     });
     for (const box of page.kinds.querySelectorAll('input')) box.addEventListener('change', () => this.showJumps());
     document.addEventListener('keydown', (event) => this.key(event));
-    new ResizeObserver(() => picture.log && picture.resize()).observe(page.scroll);
-    followThemes(page.themes, () => picture.log && picture.resize());
+    new ResizeObserver(() => this.resize()).observe(page.scroll);
+    followThemes(page.themes, () => this.resize());
+  }
+
+  /** Draws anew, where the picture is in sight. */
+  resize() {
+    if (this.picture.log && this.page.scroll.offsetWidth > 0) this.picture.resize();
   }
 
   /** Draws another log, or one that was changed a little. */
