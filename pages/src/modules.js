@@ -8,9 +8,9 @@ export async function unpackedModule(page, name) {
   return (await unpacked(JSON.parse(page.modules.textContent)[name])).arrayBuffer();
 }
 
-/** Of what a module was made. */
-export function aboutText(page, name) {
+/** Of what a module was made, and what in it is the repository's. */
+export function aboutText(page, name, parts) {
   const { commit, changed, proved, compiler, lowered } = JSON.parse(page.made.textContent)[name];
   const state = proved ? 'proved' : 'not proved';
-  return `All is done in this page, by the library for C of commit ${commit.slice(0, 12)}${changed ? ', changed,' : ''} (${state}), which ${compiler} compiled and binaryen (${lowered}) lowered: no proof covers these two. Nothing is sent.`;
+  return `All is done in this page, by ${parts} of commit ${commit.slice(0, 12)}${changed ? ', changed,' : ''} (${state}), as ${compiler} compiled it and binaryen (${lowered}) lowered it: no proof covers these two. Nothing is sent.`;
 }

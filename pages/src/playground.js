@@ -74,7 +74,7 @@ class Playground {
       this.tell(`Scripts cannot be run here: ${fault.message}.`, true);
       return;
     }
-    page.about.textContent = aboutText(page, 'mdb');
+    page.about.textContent = aboutText(page, 'mdb', 'the library for C and the programs');
     if (!(await this.openFragment())) this.openFirst();
     for (let many = 0; many < WARM; many += 1) setTimeout(() => this.plan.run(this.parts, this.editor.text), 50 * many);
   }

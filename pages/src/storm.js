@@ -24,6 +24,7 @@ class Storm {
   constructor() {
     this.values = firstValues();
     this.turn = 0;
+    this.isAtRest = false; // the runs of the last change are drawn
     this.charts = new Charts([page.chartsa, page.chartsb], (lines) => page.told.replaceChildren(...lines.map((it) => element('span', { textContent: it }))));
     this.world = new Controls(page.world, WORLD_SETTINGS, { id: 'world', name: 'both' }, (name, value) => this.changed([0, 1], { [name]: value }));
     this.drivers = NAMES.map((name, at) => new Controls(page['driver' + name.toLowerCase()], DRIVER_SETTINGS, { id: 'driver' + name, name }, (setting, value) => this.changed([at], { [setting]: value })));
@@ -62,7 +63,7 @@ class Storm {
       this.tell(`Nothing can be simulated here: ${fault.message}.`, true);
       return;
     }
-    page.about.textContent = aboutText(page, 'storm');
+    page.about.textContent = aboutText(page, 'storm', 'the library for C');
     if (!this.openFragment()) await this.run();
   }
 
@@ -89,6 +90,7 @@ class Storm {
   changed(which, values) {
     for (const at of which) Object.assign(this.values[at], values);
     this.show();
+    this.isAtRest = false;
     clearTimeout(this.waits);
     this.waits = setTimeout(() => this.run(), REST);
   }
@@ -123,6 +125,7 @@ class Storm {
       this.charts.show(runs);
       showNumbers(page.numbers, runs);
       this.summarize();
+      this.isAtRest = true;
     } catch (fault) {
       this.tell(`The run ended early: ${fault.message}.`, true);
     }
@@ -167,5 +170,6 @@ window.storm = {
   numbers: () => sumsText(storm.runs),
   drawn: () => storm.charts.charts.map((it) => ({ title: it.plan.title, run: it.run.name, rows: it.run.rows.length, told: it.told() })),
   took: () => storm.took ?? null,
+  isAtRest: () => storm.isAtRest,
 };
 storm.start();
