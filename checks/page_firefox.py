@@ -1,11 +1,12 @@
 #!/usr/bin/env python3
 """Opens the pages in Firefox without a window, by Marionette: that they draw and run there what they do in chromium.
 
-usage: checks/page_firefox.py [--browser PROGRAM] [--playground FILE] [--pictures FOLDER]
+usage: checks/page_firefox.py [--browser PROGRAM] [--playground FILE] [--storm FILE] [--pictures FOLDER]
 
 Needs firefox-esr (Debian's package of that name) and nothing else. The timeline draws the failover of pages/examples, whose counts are to be those of checks/log_counts.py;
-the playground, where it is built (pages/playground.html, else pages/out/playground.html), runs its script, whose log is to be the stored one.
-checks/page.py and checks/page_playground.py try all else, in chromium. The status is 0 where no check failed, 1 where one did, 2 where the browser is missing.
+the playground, where it is built (pages/playground.html, else pages/out/playground.html), runs its script, whose log is to be the stored one, and the programs in its tabs, which are to
+write what is stored; the page of settings under a failover (storm.html, there too) is to come to what examples/storm does, where that is built. checks/page.py, page_playground.py and
+page_storm.py try all else, in chromium. The status is 0 where no check failed, 1 where one did, 2 where the browser is missing.
 """
 import argparse
 import base64
@@ -140,14 +141,39 @@ def playground(firefox, checks, path, folder):
     checks.equal('no line is wrong', firefox.ask('document.getElementById("wrong").textContent'), '')
     firefox.ask('(document.getElementById("script").value += "reqest 1", document.getElementById("script").dispatchEvent(new Event("input")))')
     firefox.wait('document.getElementById("wrong").textContent !== ""')
-    checks.equal('a wrong line', firefox.ask('document.getElementById("wrong").textContent'), 'line 178 is malformed')
+    checks.equal('a wrong line', firefox.ask('document.getElementById("wrong").textContent'), "line 178 is malformed: no step: 'reqest 1'")
+    for tab, crate in (('verdict', 'mdb_auditor'), ('recording', 'mdb_recorded'), ('fleet', 'mdb_fleet'), ('tenants', 'mdb_proxy')):
+        firefox.ask('page.document.getElementById("tab-%s").click()' % tab)
+        firefox.ask('(page.document.getElementById("examples").selectedIndex = 0, page.document.getElementById("examples").dispatchEvent(new Event("change")))')
+        checks.equal('what %s writes' % crate, firefox.ask('timeline.log()'), stored('crates', crate, 'stdout'))
     kept(firefox, folder, 'firefox-playground')
+
+
+def storm(firefox, checks, path, folder):
+    firefox.goto(path)
+    firefox.wait('page.storm !== undefined && page.storm.isAtRest()')
+    program = os.path.join(PAGES, os.pardir, 'examples', 'storm', 'out', 'storm')
+    if os.path.exists(program):
+        wanted = subprocess.run([program, '--csv', '--', 'maxConnecting=0'], check=True, capture_output=True, text=True).stdout
+        checks.equal('the samples of a storm', firefox.ask('page.storm.samples()') == wanted, True)
+    checks.equal('its charts', firefox.ask('document.querySelectorAll(".chart").length'), 6)
+    firefox.ask('(page.storm.set(0, page.Object.assign(new page.Object(), { maxConnecting: 7 })), 1)')
+    firefox.wait('page.storm.isAtRest()')
+    checks.equal('another setting', firefox.ask('page.storm.sums()[0].pendingMost'), 350)
+    kept(firefox, folder, 'firefox-storm')
+
+
+def built(given, name):
+    """A page that is built, or nothing."""
+    found = [it for it in (given, os.path.join(PAGES, name), os.path.join(PAGES, 'out', name)) if it and os.path.exists(it)]
+    return os.path.abspath(found[0]) if found else None
 
 
 def main():
     said = argparse.ArgumentParser(usage=__doc__.split('\n')[2][7:])
     said.add_argument('--browser', default='firefox-esr')
     said.add_argument('--playground')
+    said.add_argument('--storm')
     said.add_argument('--pictures')
     given = said.parse_args()
     program = shutil.which(given.browser)
@@ -157,12 +183,14 @@ def main():
     firefox, checks = Firefox(program), Checks()
     try:
         timeline(firefox, checks, given.pictures)
-        found = [it for it in (given.playground, os.path.join(PAGES, 'playground.html'), os.path.join(PAGES, 'out', 'playground.html')) if it and os.path.exists(it)]
-        if found:
-            playground(firefox, checks, os.path.abspath(found[0]), given.pictures)
+        pages = [(playground, built(given.playground, 'playground.html')), (storm, built(given.storm, 'storm.html'))]
+        for look, path in pages:
+            if path:
+                look(firefox, checks, path, given.pictures)
     finally:
         firefox.close()
-    print('%d checks%s, %d failed' % (checks.done, '' if found else ' (no playground is built)', checks.failed))
+    lacking = [look.__name__ for look, path in pages if not path]
+    print('%d checks%s, %d failed' % (checks.done, ' (not built: %s)' % ', '.join(lacking) if lacking else '', checks.failed))
     return 1 if checks.failed else 0
 
 

@@ -5,8 +5,8 @@ usage: checks/wasm.py [--module FILE] [--archive FILE] [--lines N] [--drivers N]
 
 FILE is packaging/out/wasm/mdb.wasm, which packaging/wasm.py made, and packaging/out/built/x86_64/mdb_c.a, of which that was made. N random lines (20,000) for N
 drivers (100), the scripts of mdb_checks_top, and the lines of each FILE that --table names (cases between lines that begin with `# `) go to both: each call's status
-and each entry's text are to be the same, byte for byte. The module runs in Node, by the very glue of the playground, pages/src/library.js. Needs
-node (18 or later) and a C compiler. The last line counts; the status is 0 where nothing differs, 1 where something does, 2 where something is missing.
+and each entry's text are to be the same, byte for byte; and the reader of the pages (pages/src/steps.js), which says why a line is malformed, is to find a reason for
+those lines alone. The module runs in Node, by the very glue of the playground, pages/src/library.js. Needs node (18 or later) and a C compiler. The last line counts; the status is 0 where nothing differs, 1 where something does, 2 where something is missing.
 """
 import argparse
 import ctypes
@@ -27,15 +27,18 @@ from faults import scripts
 
 OUT = os.path.join(ROOT, 'packaging', 'out')
 OID = '%024x'
+OK, MALFORMED = 0, 2
 RUN = '''
 import fs from 'node:fs';
-import { Library, STATUS } from './library.mjs';
+import { Library, STATUS } from './library.js';
+import { reasonOf } from './reasons.js';
 const library = await Library.of(fs.readFileSync(process.argv[2]));
 const runs = JSON.parse(fs.readFileSync(process.argv[3], 'utf8')).map((lines) => {
   const driver = library.driver();
   const told = lines.map((line) => {
     const status = driver.step(line);
-    return status === STATUS.ok ? [status, driver.entry()] : [status, ''];
+    const why = reasonOf({ line: 0, status: STATUS.malformed, text: line });
+    return [status, status === STATUS.ok ? driver.entry() : '', why.slice('line 1 is malformed'.length)];
   });
   driver.close();
   return told;
@@ -145,10 +148,13 @@ class Native:
 
 
 def by_module(module, runs, folder):
-    shutil.copyfile(os.path.join(ROOT, 'pages', 'src', 'library.js'), os.path.join(folder, 'library.mjs'))
+    for name in os.listdir(os.path.join(ROOT, 'pages', 'src')):
+        if name.endswith('.js'):
+            shutil.copyfile(os.path.join(ROOT, 'pages', 'src', name), os.path.join(folder, name))
     paths = [os.path.join(folder, it) for it in ('run.mjs', 'runs.json', 'told.json')]
-    with open(paths[0], 'w', encoding='utf-8') as file:
-        file.write(RUN)
+    for path, text in ((paths[0], RUN), (os.path.join(folder, 'package.json'), '{"type": "module"}')):
+        with open(path, 'w', encoding='utf-8') as file:
+            file.write(text)
     with open(paths[1], 'w', encoding='utf-8') as file:
         json.dump(runs, file)
     subprocess.run(['node', paths[0], os.path.abspath(module), *paths[1:]], check=True)
@@ -175,13 +181,17 @@ def main():
         native = Native(given.archive, folder)
         wanted = [native.run(it) for it in runs + worked]
         found = by_module(given.module, runs + worked, folder)
-    differ = [(lines[at], one[at], other[at]) for lines, one, other in zip(runs + worked, wanted, found) for at in range(len(lines)) if one[at] != other[at]]
+    every = [(lines[at], one[at], other[at]) for lines, one, other in zip(runs + worked, wanted, found) for at in range(len(lines))]
+    differ = [it for it in every if it[1] != it[2][:2]]
+    unexplained = [(line, told) for line, _, told in every if told[0] in (OK, MALFORMED) and (told[0] == MALFORMED) != (told[2] != '')]
+    for line, told in unexplained[:10]:
+        print('%.200r: status %d, and the pages say %.200r' % (line, told[0], told[2]))
     for line, one, other in differ[:10]:
         print('%r: the archive %.300r, the module %.300r' % (line, one, other))
     random_told = [it for told in wanted[:given.drivers] for it in told]
-    print('%d random lines of %d drivers, of which %d did a step and %d are malformed; %d worked scripts of %d lines; %d characters of log; %d differ' % (
-        len(random_told), given.drivers, sum(it[0] == 0 for it in random_told), sum(it[0] == 2 for it in random_told), len(worked), sum(map(len, worked)), sum(len(it[1]) for told in wanted for it in told), len(differ)))
-    return 1 if differ else 0
+    print('%d random lines of %d drivers, of which %d did a step and %d are malformed; %d worked scripts of %d lines; %d characters of log; %d differ, %d without their reason' % (
+        len(random_told), given.drivers, sum(it[0] == 0 for it in random_told), sum(it[0] == 2 for it in random_told), len(worked), sum(map(len, worked)), sum(len(it[1]) for told in wanted for it in told), len(differ), len(unexplained)))
+    return 1 if differ or unexplained else 0
 
 
 if __name__ == '__main__':
