@@ -22,8 +22,11 @@ struct run {
 static void tell_usage(FILE *to) {
     settings usual = settings_default();
     fputs(usage, to);
-    for (size_t i = 0; settings_name(i); i++) fprintf(to, "  %s=%" PRIu32 "\n", settings_name(i), settings_value(&usual, i));
-    fputs("0 is no limit where a limit stands; death is refused, silent or stepdown.\n", to);
+    for (size_t i = 0; settings_name(i); i++) {
+        if (settings_word(&usual, i)) fprintf(to, "  %s=%s\n", settings_name(i), settings_word(&usual, i));
+        else fprintf(to, "  %s=%" PRIu32 "\n", settings_name(i), settings_value(&usual, i));
+    }
+    fputs("0 is no limit where a limit stands; death is refused, silent or stepdown. Times ending in US are in microseconds.\n", to);
 }
 
 static bool read_words(settings *to, const char *words, size_t length, const char *from) {
@@ -81,15 +84,24 @@ static bool go(struct run *run) {
     return run->samples != NULL;
 }
 
-static void write_sums(const struct run *runs, size_t count) {
+/* The settings in which the runs differ. */
+static void write_settings(const struct run *runs, size_t count) {
     for (size_t i = 0; settings_name(i); i++) {
         bool differs = false;
         for (size_t run = 1; run < count; run++) differs |= settings_value(&runs[run].given, i) != settings_value(&runs[0].given, i);
         if (!differs) continue;
         printf("%-20s", settings_name(i));
-        for (size_t run = 0; run < count; run++) printf(" %12" PRIu32, settings_value(&runs[run].given, i));
+        for (size_t run = 0; run < count; run++) {
+            const char *word = settings_word(&runs[run].given, i);
+            if (word) printf(" %12s", word);
+            else printf(" %12" PRIu32, settings_value(&runs[run].given, i));
+        }
         puts("");
     }
+}
+
+static void write_sums(const struct run *runs, size_t count) {
+    write_settings(runs, count);
     for (size_t i = 0; storm_sum_name(i); i++) {
         printf("%-20s", storm_sum_name(i));
         for (size_t run = 0; run < count; run++) printf(" %12" PRIu64, runs[run].sums[i]);

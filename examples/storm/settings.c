@@ -45,6 +45,8 @@ const char *settings_name(size_t place) { return place < SETTINGS ? table[place]
 
 uint32_t settings_value(const settings *of, size_t place) { return *(const uint32_t *)((const char *)of + table[place].place); }
 
+const char *settings_word(const settings *of, size_t place) { return table[place].place == offsetof(settings, death) ? deaths[of->death] : NULL; }
+
 settings settings_default(void) {
     settings made;
     for (size_t i = 0; i < SETTINGS; i++) *member(&made, i) = table[i].usual;

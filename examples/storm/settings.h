@@ -31,8 +31,9 @@ settings settings_default(void);
  * cannot be read, and `length` where all were; the settings are then those that were read before it. */
 size_t settings_read(settings *to, const char *words, size_t length);
 
-/* The name of the setting of this place, with its value in words; nothing behind the last one. */
+/* The name of the setting of this place; nothing behind the last one. Its value, and the word for it, where it has words. */
 const char *settings_name(size_t place);
 uint32_t settings_value(const settings *of, size_t place);
+const char *settings_word(const settings *of, size_t place);
 
 #endif

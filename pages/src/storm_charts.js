@@ -101,7 +101,9 @@ class Chart {
     this.y = (value) => HEIGHT - BOTTOM - (value / most) * (HEIGHT - TOP - BOTTOM);
     this.paintAxes(palette, most, width);
     const heights = this.run.rows.map((row) => this.heights(row));
-    for (let at = this.plan.series.length - 1; at >= 0; at -= 1) this.paintSeries(palette, this.plan.series[at], heights.map((it) => it[at]));
+    const all = this.plan.series.map((series, at) => ({ series, values: heights.map((it) => it[at]) }));
+    const areas = all.filter((it) => it.series.kind === 'area').reverse(); // the least last, since each begins at the axis
+    for (const { series, values } of [...areas, ...all.filter((it) => it.series.kind === 'line')]) this.paintSeries(palette, series, values);
     this.paintMarks(palette);
     this.paintCursor(palette);
   }
