@@ -96,6 +96,12 @@ def play_go(_: Built) -> list[Command]:
     return [command("go", "test", "-count=1", "./...", folder=PLAY / "go", MDB_PLAY=PLAY / "mdb-play", GOPROXY="off")]
 
 
+def storm(built: Built) -> list[Command]:
+    folder = TOP / "examples/storm"
+    made = command("make", "-C", folder, f"MDB={built.library}", "sanitized")
+    return [made, command(built.python, CHECKS / "storm.py", "--storm", folder / "out/storm-san", "--runs", 20, "--no-module")]
+
+
 def packaging(built: Built) -> list[Command]:
     return [command(built.python, "-m", "unittest", "test_dist", "test_kit", folder=TOP / "packaging")]
 
@@ -127,6 +133,7 @@ PARTS = {
         Part("rust", "the binding for Rust", ("cargo",), (LIBRARY,), rust),
         Part("cases", "cases of replica sets and of shares", (), ("mdb_fleet", "mdb_proxy"), cases),
         Part("judges", "changed logs and recordings, against plain definitions", (), ("mdb_script", "mdb_auditor", "mdb_recorded"), judges),
+        Part("storm", "failovers in made-up time, with sanitizers", (), (LIBRARY,), storm),
         Part("packaging", "what make dist refuses, over a made-up checkout", ("gcc", "dpkg-deb", *CROSS), (), packaging),
         Part("pages", "whether pages quote what stands in the tree", (), (), pages),
     )

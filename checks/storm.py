@@ -1,7 +1,7 @@
 #!/usr/bin/env python3
 """Runs small failovers by examples/storm whose numbers can be reckoned by hand, and compares.
 
-usage: checks/storm.py [--storm PROGRAM] [--module FILE] [--runs N]
+usage: checks/storm.py [--storm PROGRAM] [--module FILE | --no-module] [--runs N]
 
 PROGRAM is examples/storm/out/storm where it is left out (`make -C examples/storm`). Where FILE is there (packaging/out/wasm/storm.wasm), which packaging/wasm.py made, and node is
 on the path, the module of WebAssembly has to write the same numbers; N random settings (60) are tried beside those that are known. The status is 0 where no check failed, 1 where one did, 2 where the program is missing.
@@ -154,12 +154,13 @@ def main():
     said = argparse.ArgumentParser(usage=__doc__.split('\n')[2][7:])
     said.add_argument('--storm', default=os.path.join(ROOT, 'examples', 'storm', 'out', 'storm'))
     said.add_argument('--module', default=os.path.join(OUT, 'wasm', 'storm.wasm'))
+    said.add_argument('--no-module', action='store_true')
     said.add_argument('--runs', type=int, default=60)
     given = said.parse_args()
     if not os.path.exists(given.storm):
         print('missing: %s (make -C examples/storm)' % given.storm)
         return 2
-    module = given.module if os.path.exists(given.module) and shutil.which('node') else None
+    module = given.module if not given.no_module and os.path.exists(given.module) and shutil.which('node') else None
     checks = Checks()
     run(checks, given.storm, module, given.runs)
     print('%d runs of known and random settings%s: %d checks, %d failed' % (len(KNOWN) + given.runs, ', also by the module' if module else '', checks.done, checks.failed))
