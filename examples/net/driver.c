@@ -5,7 +5,7 @@
 #include "worker.h"
 #include <string.h>
 
-enum { TRIES = 200, PAUSE = 10, QUICK_TRIES = 1000, ENTRY_ROOM = 4096, EVENT_ROOM = 4096 };
+enum { TRIES = 200, PAUSE = 10, QUICK_TRIES = 1000, ENTRY_ROOM = 4096, EVENT_ROOM = 4096, FACTS = 64 };
 
 static size_t length_of(const char *text) { return strlen(text); }
 
@@ -139,30 +139,39 @@ static void count_fact(mdb_net_counts *counts, const mdb_fact *fact) {
     if (fact->number > counts->greatest_wait) counts->greatest_wait = fact->number;
 }
 
-static void take_fact(client_t *client, size_t index) {
+static void take_fact(client_t *client, const mdb_fact *fact, size_t index) {
+    if (fact->kind == MDB_FACT_POOL) count_fact(&client->counts, fact);
+    monitors_fact(client, fact);
+    pool_fact(client, fact);
+    bool event = fact->kind == MDB_FACT_POOL || fact->kind == MDB_FACT_SDAM;
+    if (event && (client->tells & MDB_NET_TELLS_EVENTS)) tell_event(client, index);
+}
+
+// One of more facts than are told at once. Answers whether there was memory.
+static bool take_fact_at(client_t *client, size_t index) {
     mdb_fact fact;
     int tries = QUICK_TRIES;
     mdb_status status;
     do status = mdb_fact_at(&client->slot, index, &fact);
     while (again(status, &tries));
-    if (status != MDB_OK) {
-        client_fail(client, MDB_NET_NO_MEMORY);
-        return;
-    }
-    if (fact.kind == MDB_FACT_POOL) count_fact(&client->counts, &fact);
-    monitors_fact(client, &fact, index);
-    pool_fact(client, &fact);
-    bool event = fact.kind == MDB_FACT_POOL || fact.kind == MDB_FACT_SDAM;
-    if (event && (client->tells & MDB_NET_TELLS_EVENTS)) tell_event(client, index);
+    if (status == MDB_OK) take_fact(client, &fact, index);
+    return status == MDB_OK;
 }
 
 static void take_facts(client_t *client) {
+    mdb_fact facts[FACTS];
     size_t count = 0;
     int tries = QUICK_TRIES;
+    mdb_status status;
     if (client->tells & MDB_NET_TELLS_ENTRIES) tell_entry(client);
-    while (again(mdb_fact_count(&client->slot, &count), &tries)) {}
-    if (tries == 0) client_fail(client, MDB_NET_NO_MEMORY);
-    for (size_t i = 0; i < count; i++) take_fact(client, i);
+    do status = mdb_facts(&client->slot, facts, FACTS, &count);
+    while (again(status, &tries));
+    bool well = status == MDB_OK || status == MDB_NO_ROOM;
+    for (size_t i = 0; i < count && well; i++) {
+        if (status == MDB_OK) take_fact(client, &facts[i], i);
+        else well = take_fact_at(client, i);
+    }
+    if (!well) client_fail(client, MDB_NET_NO_MEMORY);
 }
 
 void driver_show(client_t *client) {

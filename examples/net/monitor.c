@@ -205,17 +205,7 @@ static void check_now(struct monitor *m) {
     pthread_cond_broadcast(&m->news);
 }
 
-// The monitor of the server that a fact names, NULL where there is none; `status` says whether there was memory to find it.
-static struct monitor *named(client_t *client, size_t index, mdb_status *status) {
-    char address[ADDRESS_ROOM];
-    size_t length = 0;
-    uint32_t pool = 0;
-    *status = mdb_fact_address(&client->slot, index, (uint8_t *)address, sizeof address, &length);
-    if (*status == MDB_OK) *status = mdb_open_pool(&client->slot, (const uint8_t *)address, length, &pool);
-    return *status == MDB_OK ? monitor_of(client, pool) : NULL;
-}
-
-void monitors_fact(client_t *client, const mdb_fact *fact, size_t index) {
+void monitors_fact(client_t *client, const mdb_fact *fact) {
     bool closed = fact->kind == MDB_FACT_SDAM && fact->event == MDB_SDAM_SERVER_CLOSED, now = fact->kind == MDB_FACT_CHECK_NOW;
     if (client->options.load_balanced) return;
     if (closed || fact->kind == MDB_FACT_OPENED) {
@@ -223,12 +213,9 @@ void monitors_fact(client_t *client, const mdb_fact *fact, size_t index) {
         pthread_cond_signal(&client->keeping);
     }
     if (!now && fact->kind != MDB_FACT_CANCEL) return;
-    mdb_status status;
-    struct monitor *m = named(client, index, &status);
+    struct monitor *m = monitor_of(client, fact->pool);
     if (m && now) check_now(m);
     if (m && !now && m->checking) eventfd_write(m->conn.sock.cancel, 1);
-    // Where there was no memory to find the one that is meant, all are.
-    for (m = client->every_monitor; m && status == MDB_NO_MEMORY; m = m->next) check_now(m);
 }
 
 struct monitor *monitor_ended(client_t *client) {

@@ -28,7 +28,7 @@ struct monitor {
 };
 
 // What a fact means for the monitors: a check is wanted or cancelled, or a pool was opened or closed, and then they are to be fitted. The lock is held.
-void monitors_fact(client_t *client, const mdb_fact *fact, size_t index);
+void monitors_fact(client_t *client, const mdb_fact *fact);
 
 // Starts a monitor for each pool that is open and has none, and closes those of other pools. Answers whether nothing was missing for that. The lock is held.
 bool monitors_fit(client_t *client);
