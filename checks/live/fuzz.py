@@ -52,7 +52,7 @@ def main():
     subprocess.run([given.python, '-c', SEEDS, HERE, seeds], check=True)
     settings = {**os.environ, 'AFL_SKIP_CPUFREQ': '1', 'AFL_NO_UI': '1', 'AFL_NO_AFFINITY': '1', 'AFL_I_DONT_CARE_ABOUT_MISSING_CRASHES': '1',
                 'ASAN_OPTIONS': 'abort_on_error=1:symbolize=0:detect_leaks=0', 'UBSAN_OPTIONS': 'abort_on_error=1:symbolize=0'}
-    words = ['afl-fuzz', '-G', '200000', '-V', str(given.seconds), '-m', 'none', '-t', '30000+', '-i', seeds, '-o', found, '--', os.path.join(LIVE, 'out', 'fuzz_wire')]
+    words = ['afl-fuzz', '-G', '200000', '-V', str(given.seconds), '-m', 'none', '-t', '30000', '-i', seeds, '-o', found, '--', os.path.join(LIVE, 'out', 'fuzz_wire')]
     ran = subprocess.run(words, env=settings, stdin=subprocess.DEVNULL, stdout=subprocess.PIPE, stderr=subprocess.STDOUT, text=True)
     try:
         with open(os.path.join(found, 'default', 'fuzzer_stats')) as file:

@@ -4,7 +4,7 @@ are none. After each one inserts are to go on.
 
 usage: checks/live/soak.py [--program MDB_LIVE] [--seconds N] [--threads N] [--seed N] [--python PYTHON] [--patience SECONDS]
 
-Writes a line a minute, with the memory of mdb_live, and its counts at the end. Status 0 where inserts went on within PATIENCE (15) seconds after each blow, and mdb_live
+Writes a line a minute, with what mdb_live has of the heap in use (heap.c) and what is resident, and its counts at the end. Status 0 where inserts went on within PATIENCE (15) seconds after each blow, and mdb_live
 ended well.
 """
 import argparse
@@ -17,7 +17,7 @@ import tempfile
 import time
 
 sys.dont_write_bytecode = True
-from run import TOP, Servers
+from run import HERE, TOP, Servers
 
 BLOWS = {
     'kill': (['kill 0', 'elect 1'], ['start 0']), 'kill-and-back': (['kill 0', 'start 0'], []), 'freeze': (['freeze 0', 'elect 2'], ['thaw 0']),
@@ -33,6 +33,15 @@ def memory(pid):
     """Kilobytes that are resident."""
     with open('/proc/%d/status' % pid) as file:
         return int(next(it for it in file if it.startswith('VmRSS')).split()[1])
+
+
+def in_use(folder):
+    """Kilobytes of the heap that are in use, as heap.c has written."""
+    try:
+        with open(os.path.join(folder, 'heap')) as file:
+            return int(file.read()) // 1024
+    except (OSError, ValueError):
+        return 0
 
 
 def recovered(servers, since, patience):
@@ -58,10 +67,11 @@ def main():
     servers.do('elect 0')
     uri = 'mongodb://%s/?replicaSet=rs&heartbeatFrequencyMS=500&connectTimeoutMS=1000&maxPoolSize=20&waitQueueTimeoutMS=2000&socketTimeoutMS=3000' % ','.join(servers.addresses)
     words = [given.program, uri, str(given.seconds + 100), '--load', str(given.threads), '--pace', '5']
-    written = tempfile.TemporaryFile('w+')
-    live = subprocess.Popen(words, stdout=written, stderr=subprocess.STDOUT)
+    folder, written = tempfile.TemporaryDirectory(), tempfile.TemporaryFile('w+')
+    heap = os.path.join(folder.name, 'heap.so')
+    subprocess.run(['cc', '-O1', '-shared', '-fPIC', os.path.join(HERE, 'heap.c'), '-o', heap, '-lpthread'], check=True)
+    live = subprocess.Popen(words, stdout=written, stderr=subprocess.STDOUT, env={**os.environ, 'LD_PRELOAD': heap, 'HEAP_FILE': os.path.join(folder.name, 'heap')})
     began, told, took, late = time.monotonic(), 60.0, [], []
-    sizes = []
     while time.monotonic() < began + given.seconds and live.poll() is None:
         name = chance.choice(sorted(BLOWS))
         blow, after = BLOWS[name]
@@ -77,9 +87,8 @@ def main():
         late += [name] if seconds is None else []
         if time.monotonic() - began > told:
             told += 60
-            sizes.append(memory(live.pid))
-            print('%4d s: %d blows, %d KB' % (time.monotonic() - began, len(took), sizes[-1]), flush=True)
-    size = memory(live.pid) if live.poll() is None else 0
+            print('%4d s: %d blows, %d KB in use, %d KB resident' % (time.monotonic() - began, len(took), in_use(folder.name), memory(live.pid)), flush=True)
+    size, used = memory(live.pid) if live.poll() is None else 0, in_use(folder.name)
     live.send_signal(signal.SIGTERM)
     live.wait(60)
     servers.close()
@@ -87,8 +96,8 @@ def main():
     wrote = written.read()
     print('\n'.join(it for it in wrote.splitlines() if not it[:1].isdigit()))
     took.sort()
-    print('%d blows, recovered after %.3f s in the middle and %.3f s at most, late %s; %d KB at the end, status %s' % (
-        len(took), took[len(took) // 2], took[-1], late or 'never', size, live.returncode))
+    print('%d blows, recovered after %.3f s in the middle and %.3f s at most, late %s; %d KB in use and %d KB resident at the end, status %s' % (
+        len(took), took[len(took) // 2], took[-1], late or 'never', used, size, live.returncode))
     return 0 if live.returncode == 0 and not late else 1
 
 
