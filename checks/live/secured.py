@@ -151,6 +151,22 @@ def users(given):
     ])
 
 
+def witness(given):
+    """Another driver, pymongo where it is installed, proves who it is to the same servers over TLS, and they refuse it with another password."""
+    if subprocess.run([given.python, '-c', 'import pymongo'], stderr=subprocess.DEVNULL).returncode:
+        return True, 'left out'
+    made, said = given.certificates, []
+    servers = Servers(given.python, 'replica', 1, words=made.tls('server', '--user', USER, PASSWORD))
+    servers.do('elect 0')
+    script = "import sys, pymongo; c = pymongo.MongoClient(sys.argv[1]); c.test.things.insert_one({}); print('inserted')"
+    for who in (WHO, WHO.replace('%20l', '')):
+        uri = 'mongodb://%s%s/?%s&tls=true&tlsCAFile=%s&authMechanism=SCRAM-SHA-256' % (who, servers.addresses[0], FAST, made.path('ca.pem'))
+        ran = subprocess.run([given.python, '-c', script, uri], stdout=subprocess.PIPE, stderr=subprocess.STDOUT, text=True)
+        said.append(ran.stdout.strip().splitlines()[-1][:60])
+    servers.close()
+    return said[0] == 'inserted' and 'AuthenticationFailed' in said[1], '%s; %s' % tuple(said)
+
+
 def lies(given):
     """A server that does not know the password, or answers what is none, is not talked to, and is once it does."""
     said, well = [], True
@@ -239,7 +255,7 @@ def without(given):
     ])
 
 
-SCENARIOS = {it.__name__: it for it in (examples, certificates, clients, users, lies, told, failover, no_memory, frozen, without)}
+SCENARIOS = {it.__name__: it for it in (examples, certificates, clients, users, witness, lies, told, failover, no_memory, frozen, without)}
 
 
 def main():
