@@ -75,6 +75,27 @@ def cursors(given):
     return not wrong, '%s; wrong: %s' % (', '.join(said), wrong or 'none')
 
 
+def broken(given):
+    """A cursor whose server goes, answers late, damages its answer or forgets it ends with an error, its pin is let go, and the next cursor is read."""
+    wrong = []
+    kinds = ['set rs 3; at getMore 2 kill 0; at +300ms elect 1', 'set rs 3; at getMore 2 delay 5s', 'routers 2; at getMore 2 error 43', 'balancer 1; at getMore 2 delay 5s',
+             'balancer 1; at getMore 2 damage half', 'balancer 1; at getMore 3 before-reply reset', 'balancer 1; at killCursors 1 close']
+    for kind in kinds:
+        with tempfile.TemporaryDirectory() as folder:
+            log = os.path.join(folder, 'log')
+            script = "printf 'fill 0 25\\nwalk 0 4 1000\\nwalk 0 4 1000\\nwalk 0 4 6\\n' | %s \"$0\"" % given.calls
+            play = Play(given, ['sh', '-c', script, '$MDB_URI'], do=kind, env={'MDB_LOG': log})
+            told = [(int(it[0]), int(it[1])) for it in re.findall(r'^(\d+) sent=.* reply=(\d+)', play.ran.stdout, re.M)]
+            with open(log, encoding='utf-8') as file:
+                steps = [it.split(' ')[0] for it in file]
+            judged = audited(given, log)
+        ends = 'killCursors' in kind
+        good = len(told) == 4 and told[0] == (0, 25) and (told[1] == (0, 25) if ends else told[1][0] and 0 < told[1][1] < 25) and told[2:] == [(0, 25), (0, 6)]
+        if not good or steps.count('pin') != steps.count('unpin') or not (judged.startswith('legal') or judged == 'not judged') or play.ran.returncode:
+            wrong.append('%s: %s %s %s' % (kind, told, judged, play.failed()))
+    return not wrong, '%d cursors; wrong: %s' % (len(kinds), wrong or 'none')
+
+
 def plans(given):
     """Under each plan of play no write is lost or stored twice, what is to be tried again is, once, and no event breaks a rule."""
     failed, count = [], 0
@@ -96,7 +117,7 @@ def plans(given):
     return not failed, '%d plans; failed: %s' % (count, failed or 'none')
 
 
-SCENARIOS = {it.__name__: it for it in (cursors, plans)}
+SCENARIOS = {it.__name__: it for it in (cursors, broken, plans)}
 
 
 def main():
