@@ -66,6 +66,7 @@ def judges(built: Built) -> list[Command]:
         command(built.python, CHECKS / "audit/forged.py", *auditor, "--logs", 300),
         command(built.python, CHECKS / "recorded/cases.py", built.program("mdb_recorded")),
         command(built.python, CHECKS / "recorded/mutants.py", built.program("mdb_recorded"), 200),
+        command(built.python, CHECKS / "recorded/own.py", built.program("mdb_recorded"), built.program("mdb_script"), 100),
     ]
 
 

@@ -32,7 +32,7 @@ CASES = [
     Case('it is handed out of the pool that is ready again', ONE[:4] + ['clear', 'ready', 'established 1', 'out 1'], [], KEPT),
     Case('it is handed out once, and stale behind that', ONE[:4] + ['clear', 'established 1', 'out 1', 'in 1', 'ready', 'start', 'out 1'], ['11 stale'], BROKEN),
     Case('what was ready at a clear is not handed out', ONE[:5] + ['clear', 'out 1'], ['7 pool-not-ready', '7 stale'], BROKEN),
-    Case('a pool is paused at first', ['pool', 'start', 'create 1', 'established 1', 'out 1'], ['5 pool-not-ready'], BROKEN),
+    Case('a pool is paused at first', ['pool', 'start', 'create 1', 'established 1', 'out 1'], ['3 created-while-paused', '5 pool-not-ready'], BROKEN),
     Case('what is pending when its pool is closed may be established and handed out', ONE[:4] + ['close', 'established 1', 'out 1', 'in 1', 'end 1 reason=poolClosed'], [], KEPT),
     Case('what was ready when its pool was closed is not handed out', ONE[:5] + ['close', 'out 1'], ['7 pool-is-closed', '7 pool-not-ready'], BROKEN),
     # behind a load balancer
@@ -48,6 +48,24 @@ CASES = [
          ['14 too-many'], BROKEN),
     Case('a waiter of a former pool is told of its end', ['pool', 'ready', 'start', 'close', 'pool', 'ready', 'fail reason=poolClosed'], [], KEPT),
     Case('an open pool is no reason', ['pool', 'ready', 'start', 'fail reason=poolClosed'], ['4 no-reason'], BROKEN),
+    # CMAP, "Marking a Connection Pool as Ready", "Clearing a Connection Pool" and "Closing a Connection Pool"
+    Case('a ready pool is not told ready again', ['pool', 'ready', 'ready'], ['3 pool-ready-twice'], BROKEN),
+    Case('a pool turns ready behind each clear', ['pool', 'ready', 'clear', 'ready'], [], KEPT),
+    Case('a paused pool is not cleared', ['pool', 'clear', 'ready', 'clear', 'clear'], ['2 cleared-while-paused', '5 cleared-while-paused'], BROKEN),
+    Case('a paused pool creates nothing', ONE + ['clear', 'create 2'], ['8 created-while-paused'], BROKEN),
+    Case('what lies in a pool is closed before it', ONE + ['in 1', 'close'], ['8 left-in-pool'], BROKEN),
+    Case('so it is', ONE + ['in 1', 'end 1 reason=poolClosed', 'close'], [], KEPT),
+    Case('what is out or pending at its end need not be', ONE + ['start', 'create 2', 'close', 'in 1', 'end 1 reason=poolClosed', 'end 2 reason=error', 'fail reason=connectionError'], [], KEPT),
+    # check-outs
+    Case('a check-out is started before it ends', ['pool', 'ready', 'fail reason=timeout'], ['3 not-started'], BROKEN),
+    Case('a check-out ends once', ['pool', 'ready', 'start caller=1', 'start caller=2', 'fail reason=timeout caller=1', 'fail reason=timeout caller=1'], ['6 not-started'], BROKEN),
+    Case('a caller that got a connection may start another', ONE[:2] + ['start caller=1', 'create 1 caller=1', 'established 1', 'out 1 caller=1', 'in 1', 'start caller=1', 'out 1 caller=1'], [], KEPT),
+    # reasons of closes
+    Case('stale is what was created before a clear', ONE + ['in 1', 'end 1 reason=stale'], ['8 not-cleared'], BROKEN),
+    Case('so it is', ONE + ['clear', 'in 1', 'end 1 reason=stale'], [], KEPT),
+    Case('a clear of one service may be the cause', ['pool loadBalanced=true'] + ONE[2:] + ['clear serviceId=5f', 'in 1', 'end 1 reason=stale'], [], KEPT),
+    Case('what is out is closed behind a clear alone', ONE + ['end 1 reason=error'], ['7 closed-while-out'], BROKEN),
+    Case('a clear may close what is out, and who had it checks it in', ONE + ['clear interruptInUseConnections=true', 'end 1 reason=stale', 'in 1'], [], KEPT),
     # options
     Case('how many may be pending is not assumed', ['pool', 'ready'] + ['start'] * 3 + ['create 1', 'create 2', 'create 3'], [], KEPT),
     Case('where it is told it is a limit', ['pool maxConnecting=2', 'ready'] + ['start'] * 3 + ['create 1', 'create 2', 'create 3'], ['8 too-many-pending'], BROKEN),
@@ -58,6 +76,13 @@ CASES = [
     Case('or with the end', ['topology', 'change', 'open', 'change', 'change', 'last'], ['6 no-cause'], BROKEN),
     Case('a check that began may end behind the end of its server', ['topology', 'open', 'check', 'gone', 'bad'], [], KEPT),
     Case('no check begins behind it', ['topology', 'open', 'gone', 'check'], ['4 server-not-open'], BROKEN),
+    Case('one check of a server runs at a time', ['topology', 'open', 'check', 'check'], ['4 checked-twice'], BROKEN),
+    Case('a server that comes back is checked while the last check of the one before runs', ['topology', 'open', 'check', 'gone', 'open', 'check', 'bad', 'good'], [], KEPT),
+    Case('a check ends once', ['topology', 'open', 'check', 'good', 'bad'], ['5 no-check'], BROKEN),
+    Case('the topology is opened first', ['open', 'topology'], ['2 topology-opened-late'], BROKEN),
+    Case('and once', ['topology', 'topology'], ['2 topology-opened-late'], BROKEN),
+    Case('its end is the last', ['topology', 'open', 'last', 'gone', 'bad'], ['4 topology-is-closed', '5 no-check'], BROKEN),
+    Case('another client may come behind it', ['topology', 'last', 'topology', 'last'], [], KEPT),
     # what is not understood
     Case('an empty file', [], [], NOTHING, 'nothing judged passed_over=0'),
     Case('another kind', ['{"kind":"command","event":"CommandStarted"}'] * 2, [], NOTHING, 'nothing judged passed_over=2'),

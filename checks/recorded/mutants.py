@@ -28,7 +28,7 @@ def made_up(chance):
 
     for n in range(chance.randint(1, 3)):
         pools['h%d:1' % n] = None
-    servers = {}
+    servers, left = {}, {}
     waiting = {address: [] for address in pools}
 
     def served(address):
@@ -67,9 +67,10 @@ def made_up(chance):
         address = chance.choice(list(pools))
         pool = pools[address]
         if pool is None:
-            options = {key: value for key, value in (('maxPoolSize', chance.randint(0, 4)), ('maxConnecting', 2), ('maxIdleTimeMS', chance.choice((0, 100, 1000)))) if chance.random() < .7}
+            options = {key: value for key, value in (('maxPoolSize', chance.randint(0, 4)), ('maxConnecting', 2), ('maxIdleTimeMS', chance.choice((0, 100, 1000))), ('loadBalanced', chance.random() < .2)) if chance.random() < .7}
             tell(address, 'ConnectionPoolCreated', **options)
-            pools[address] = {'next': 1, 'idle': [], 'out': [], 'pending': [], 'ready': False}
+            first = 1 if chance.random() < .7 else 5
+            pools[address] = {'next': first, 'idle': [], 'out': left.pop(address, []), 'pending': [], 'ready': False}
             continue
         act = chance.random()
         if act < .12:
@@ -80,7 +81,7 @@ def made_up(chance):
             pool['ready'] = False
         elif act < .18:
             tell(address, 'ConnectionPoolClosed')
-            pools[address] = None
+            pools[address], left[address] = None, pool['out'] if chance.random() < .7 else []
         elif act < .36:
             callers = {'caller': chance.randint(1, 9)} if chance.random() < .8 else {}
             tell(address, 'ConnectionCheckOutStarted', **callers)
@@ -137,7 +138,7 @@ def changed(line, chance):
     elif key == 'kind':
         thing[key] = chance.choice(('pool', 'sdam', 'beat', 3))
     else:
-        thing[key] = chance.choice((0, 1, 2, 100, 'x', 2.0, None))
+        thing[key] = chance.choice((0, 1, 2, 100, 'x', 2.0, None, True, False))
     return json.dumps(thing, ensure_ascii=chance.random() < .5)
 
 

@@ -141,6 +141,35 @@ def left(pools):
     return count
 
 
+def has(pool, me):
+    """Somebody has the connection."""
+    last = newest(since(pool, me), lambda x: x['id'] == me and x['event'] in ('ConnectionCheckedOut', 'ConnectionCheckedIn'))
+    return last is not None and last['event'] == 'ConnectionCheckedOut'
+
+
+def lies(pool, me):
+    """The connection was handed out, came back, and lies in the pool."""
+    own = since(pool, me)
+    return bool(named(own, 'ConnectionCheckedOut', me)) and not has(pool, me) and not named(own, 'ConnectionClosed', me)
+
+
+def lying(pool):
+    return sum(1 for me in {x['id'] for x in pool if x['id'] is not None} if lies(pool, me))
+
+
+def waiting(pools):
+    """How many check-outs of these pools did not end."""
+    count = 0
+    for pool in pools:
+        count = max(0, count + len(named(pool, 'ConnectionCheckOutStarted')) - len(named(pool, 'ConnectionCheckedOut')) - len(named(pool, 'ConnectionCheckOutFailed')))
+    return count
+
+
+def is_checking_out(pool, caller):
+    last = newest(pool, lambda x: x['caller'] == caller and x['event'] in ('ConnectionCheckOutStarted', 'ConnectionCheckedOut', 'ConnectionCheckOutFailed'))
+    return last is not None and last['event'] == 'ConnectionCheckOutStarted'
+
+
 def since(pool, me):
     """What came since the connection was created last."""
     made = [n for n, x in enumerate(pool) if x['event'] == 'ConnectionCreated' and x['id'] == me]
@@ -215,36 +244,55 @@ def server_rules(events, e):
         was = None if last is None else {'ServerOpening': 'Unknown', 'ServerClosed': None}.get(last['event'], last['to'])
         if was is not None and e['from'] is not None and was != e['from']:
             yield 'from-differs'
-    beat = newest(mine, lambda x: x['event'] in BEATS)
-    if name in BEATS[1:] and (beat is None or beat['event'] != BEATS[0]):
+    running = 0
+    for x in mine:
+        running = running + 1 if x['event'] == BEATS[0] else max(0, running - 1) if x['event'] in BEATS[1:] else running
+    if name in BEATS[1:] and not running:
         yield 'no-check'
+    beat = newest(mine, lambda x: x['event'] in BEATS + SERVERS[:1])
+    if name == BEATS[0] and told and beat is not None and beat['event'] == BEATS[0]:
+        yield 'checked-twice'
     changes = [n for n, x in enumerate(events) if x['event'] == 'TopologyDescriptionChanged']
     if name in ('TopologyDescriptionChanged', 'TopologyClosed') and changes:
         before = events[changes[-2] + 1 if len(changes) > 1 else 0:changes[-1]]
         caused = any(x['event'] in SERVERS + ('TopologyOpening',) for x in before)
         if not caused and not any(x['event'] in SERVERS[:2] for x in events[changes[-1]:]):
             yield 'no-cause'
+    state = [x['event'] for x in events if x['kind'] == 'sdam']
+    if name == 'TopologyOpening' and state and state[-1] != 'TopologyClosed':
+        yield 'topology-opened-late'
+    ends = [x for x in state if x in ('TopologyOpening', 'TopologyClosed')]
+    if e['kind'] == 'sdam' and name != 'TopologyOpening' and ends and ends[-1] == 'TopologyClosed':
+        yield 'topology-is-closed'
 
 
 def pool_rules(pools, e, year):
     """The rules that an event breaks after these events of the pools at its address, in the order in which they are told."""
     uses = e['event'] in NEEDS_ID[1:] and 0 < left(pools)
-    for rule in rules(pools[-1], e, year, any(named(pool, 'ConnectionPoolClosed') for pool in pools[:-1])):
-        if not uses or rule == 'out-of-turn':
+    for rule in rules(pools, e, year):
+        if not uses or rule in ('not-started', 'out-of-turn'):
             yield rule
 
 
-def rules(pool, e, year, was_closed):
-    """The rules that an event breaks, if it is of this pool."""
-    name, me = e['event'], e['id']
+def is_unstarted(pools, e):
+    """It ends a check-out that is known not to be under way."""
+    if e['event'] not in ('ConnectionCheckedOut', 'ConnectionCheckOutFailed') or not named(pools[-1], 'ConnectionPoolCreated'):
+        return False
+    return not waiting(pools) or e['caller'] is not None and not waiting(pools[:-1]) and not is_checking_out(pools[-1], e['caller'])
+
+
+def rules(pools, e, year):
+    """The rules that an event breaks, if it is of the last of these pools."""
+    name, me, pool, was_closed = e['event'], e['id'], pools[-1], any(named(it, 'ConnectionPoolClosed') for it in pools[:-1])
     created_pool, closed_pool = bool(named(pool, 'ConnectionPoolCreated')), bool(named(pool, 'ConnectionPoolClosed'))
     options = named(pool, 'ConnectionPoolCreated')[-1] if created_pool else {'maxPoolSize': 0, 'maxConnecting': 0, 'maxIdleTimeMS': 0}
     own, made = since(pool, me), [n for n, x in enumerate(pool) if x['event'] == 'ConnectionCreated' and x['id'] == me]
     created, readied, closed = bool(made), bool(named(own, 'ConnectionReady', me)), bool(named(own, 'ConnectionClosed', me))
     ready = [n for n, x in enumerate(pool) if x['event'] == 'ConnectionReady' and x['id'] == me and (not made or made[-1] < n)]
     first = not named(own, 'ConnectionCheckedOut', me) and len(pauses(pool)) <= len(pauses(pool[:ready[-1]] if ready else []))
-    last = newest(own, lambda x: x['id'] == me and x['event'] in ('ConnectionCheckedOut', 'ConnectionCheckedIn'))
-    out = last is not None and last['event'] == 'ConnectionCheckedOut'
+    out = has(pool, me)
+    paused = created_pool and not closed_pool and not hands_out(pool)
+    cleared = any(x['event'] == 'ConnectionPoolCleared' and not x['all'] for x in pool) or (clears(pool[:made[-1]]) if made else 0) < clears(pool)
     goes_out = name == 'ConnectionCheckedOut'
     if name == 'ConnectionPoolCreated' and created_pool and not closed_pool:
         yield 'pool-created-twice'
@@ -252,8 +300,16 @@ def rules(pool, e, year, was_closed):
         yield 'pool-not-created'
     if closed_pool and (name in POOL_LIFE or goes_out and not first):
         yield 'pool-is-closed'
+    if name == 'ConnectionPoolReady' and is_ready(pool) and year != 2020:
+        yield 'pool-ready-twice'
+    if name == 'ConnectionPoolCleared' and e['all'] and paused and year != 2020:
+        yield 'cleared-while-paused'
+    if name == 'ConnectionPoolClosed' and lying(pool):
+        yield 'left-in-pool'
     if goes_out and not hands_out(pool) and not (first and made and hands_out(pool[:made[-1]])) and year != 2020:
         yield 'pool-not-ready'
+    if name == 'ConnectionCreated' and paused and year != 2020:
+        yield 'created-while-paused'
     if name == 'ConnectionCreated' and created:
         yield 'created-twice'
     if name in NEEDS_ID[1:] and not created:
@@ -268,10 +324,12 @@ def rules(pool, e, year, was_closed):
         yield 'not-checked-out'
     if name == 'ConnectionClosed' and closed:
         yield 'closed-twice'
-    if name in ('ConnectionReady', 'ConnectionCheckedOut', 'ConnectionCheckedIn') and closed:
+    if name in ('ConnectionReady', 'ConnectionCheckedOut', 'ConnectionCheckedIn') and closed and not (name == 'ConnectionCheckedIn' and out):
         yield 'is-closed'
-    if name == 'ConnectionClosed' and out and year in (2020, 2021):
+    if name == 'ConnectionClosed' and out and (year in (2020, 2021) or e['reason'] != 'poolClosed' and not cleared):
         yield 'closed-while-out'
+    if name == 'ConnectionClosed' and e['reason'] == 'stale' and created and not cleared:
+        yield 'not-cleared'
     if goes_out:
         if (clears(pool[:made[-1]]) if made else 0) < clears(pool) and not first:
             yield 'stale'
@@ -284,6 +342,8 @@ def rules(pool, e, year, was_closed):
         dropped = sum(1 for n, x in ended(pool) if not named(since(pool[:n], x['id']), 'ConnectionReady', x['id']))
         if 0 < options['maxConnecting'] <= max(0, max(0, len(named(pool, 'ConnectionCreated')) - len(named(pool, 'ConnectionReady'))) - dropped) and year != 2020:
             yield 'too-many-pending'
+    if is_unstarted(pools, e):
+        yield 'not-started'
     if name == 'ConnectionCheckOutFailed':
         broken = any(x['reason'] in ('error', 'connectionError') for x in named(pool, 'ConnectionClosed'))
         fair = {'timeout': True, 'poolClosed': was_closed or closed_pool, 'connectionError': was_closed or not hands_out(pool) or broken or 0 < clears(pool)}

@@ -1,7 +1,7 @@
 -- The addresses that a recording names, in the order in which they were first named. The number of a pool is the place of its address.
 use Rattle.std.specs.Prelude.{◌≡◌, ℕ, ◌+◌, List, [], ◌∷◌, ◌++◌, map, Option, Some, None, is_some, if◌then◌else◌, string_bytes}
 use Rattle.std.specs.Str.{bytes_eq}
-use Rattle.std.specs.HashMap.{get_by_text}
+use Rattle.std.specs.BTreeMap.{get_by_text}
 use Rattle.mdb_recording_lines.specs.declared.names.Names.{Names}
 
 -- the place of an address, counted from this

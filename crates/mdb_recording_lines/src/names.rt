@@ -5,13 +5,13 @@ ghost use Rattle.mdb_recording_lines.specs.Known.{Holds, Named, place};
 
 use mdb_base::OutOfMemory;
 use std::alloc::Global;
-use std::collections::HashMap;
+use std::collections::BTreeMap;
 
 /// The addresses, in the order in which they were first named, and the place of each.
 #[derive(Drop)]
 pub struct Names {
     pub list: Vec<String>,
-    pub map: HashMap<String, u32>,
+    pub map: BTreeMap<String, u32>,
 }
 
 impl Names {
@@ -21,7 +21,7 @@ impl Names {
     {
         Names {
             list: Vec::new(alloc),
-            map: HashMap::new(alloc),
+            map: BTreeMap::new(alloc),
         }
     }
 

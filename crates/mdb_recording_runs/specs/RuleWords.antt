@@ -1,19 +1,25 @@
 -- The rules, in the order in which they are told, and their words.
 use Rattle.std.specs.Prelude.{ℕ, List, [], ◌∷◌, codes}
 use Rattle.mdb_recordings.specs.declared.rule.Rule.{Rule}
-use Rattle.mdb_recordings.specs.declared.rule.Rule.TheVariants.{PoolCreatedTwice, PoolNotCreated, PoolIsClosed, PoolNotReady, CreatedTwice, NotCreated, ReadiedTwice, NotReadied, OutTwice, NotOut, ClosedTwice, IsClosed, ClosedWhileOut, IsStale, IsIdle, TooMany, TooManyPending, HasNoReason, OutOfTurn}
+use Rattle.mdb_recordings.specs.declared.rule.Rule.TheVariants.{PoolCreatedTwice, PoolNotCreated, PoolIsClosed, PoolReadiedTwice, ClearedWhilePaused, LeftInPool, PoolNotReady, CreatedWhilePaused, CreatedTwice, NotCreated, ReadiedTwice, NotReadied, OutTwice, NotOut, ClosedTwice, IsClosed, ClosedWhileOut, ClosedInUse, NotCleared, IsStale, IsIdle, TooMany, TooManyPending, NotStarted, HasNoReason, OutOfTurn}
 use Rattle.mdb_recording_servers.specs.declared.rule.ServerRule.{ServerRule}
 use Rattle.mdb_recording_servers.specs.declared.rule.ServerRule.TheVariants as servers
 
 abbrev pub all_rules : List Rule
-all_rules = PoolCreatedTwice ∷ PoolNotCreated ∷ PoolIsClosed ∷ PoolNotReady ∷ CreatedTwice ∷ NotCreated ∷ ReadiedTwice ∷ NotReadied ∷ OutTwice ∷ NotOut ∷ ClosedTwice ∷ IsClosed ∷ ClosedWhileOut ∷ IsStale ∷ IsIdle ∷ TooMany ∷ TooManyPending ∷ HasNoReason ∷ OutOfTurn ∷ []
+all_rules =
+    PoolCreatedTwice ∷ PoolNotCreated ∷ PoolIsClosed ∷ PoolReadiedTwice ∷ ClearedWhilePaused ∷ LeftInPool ∷ PoolNotReady ∷ CreatedWhilePaused ∷ CreatedTwice ∷ NotCreated ∷ ReadiedTwice ∷ NotReadied ∷ OutTwice ∷
+    NotOut ∷ ClosedTwice ∷ IsClosed ∷ ClosedWhileOut ∷ ClosedInUse ∷ NotCleared ∷ IsStale ∷ IsIdle ∷ TooMany ∷ TooManyPending ∷ NotStarted ∷ HasNoReason ∷ OutOfTurn ∷ []
 
 -- how a rule is broken
 abbrev pub rule_word : Rule → List ℕ
 rule_word PoolCreatedTwice = codes "pool-created-twice"
 rule_word PoolNotCreated = codes "pool-not-created"
 rule_word PoolIsClosed = codes "pool-is-closed"
+rule_word PoolReadiedTwice = codes "pool-ready-twice"
+rule_word ClearedWhilePaused = codes "cleared-while-paused"
+rule_word LeftInPool = codes "left-in-pool"
 rule_word PoolNotReady = codes "pool-not-ready"
+rule_word CreatedWhilePaused = codes "created-while-paused"
 rule_word CreatedTwice = codes "created-twice"
 rule_word NotCreated = codes "not-created"
 rule_word ReadiedTwice = codes "ready-twice"
@@ -23,20 +29,26 @@ rule_word NotOut = codes "not-checked-out"
 rule_word ClosedTwice = codes "closed-twice"
 rule_word IsClosed = codes "is-closed"
 rule_word ClosedWhileOut = codes "closed-while-out"
+rule_word ClosedInUse = codes "closed-while-out"
+rule_word NotCleared = codes "not-cleared"
 rule_word IsStale = codes "stale"
 rule_word IsIdle = codes "idle"
 rule_word TooMany = codes "too-many"
 rule_word TooManyPending = codes "too-many-pending"
+rule_word NotStarted = codes "not-started"
 rule_word HasNoReason = codes "no-reason"
 rule_word OutOfTurn = codes "out-of-turn"
 
 -- those of servers and of the topology
 abbrev pub all_server_rules : List ServerRule
-all_server_rules = servers.OpenedTwice ∷ servers.NotOpen ∷ servers.FromDiffers ∷ servers.NotChecked ∷ servers.HasNoCause ∷ []
+all_server_rules = servers.OpenedTwice ∷ servers.NotOpen ∷ servers.FromDiffers ∷ servers.NotChecked ∷ servers.CheckedTwice ∷ servers.HasNoCause ∷ servers.OpenedLate ∷ servers.IsClosed ∷ []
 
 abbrev pub server_rule_word : ServerRule → List ℕ
 server_rule_word servers.OpenedTwice = codes "server-opened-twice"
 server_rule_word servers.NotOpen = codes "server-not-open"
 server_rule_word servers.FromDiffers = codes "from-differs"
 server_rule_word servers.NotChecked = codes "no-check"
+server_rule_word servers.CheckedTwice = codes "checked-twice"
 server_rule_word servers.HasNoCause = codes "no-cause"
+server_rule_word servers.OpenedLate = codes "topology-opened-late"
+server_rule_word servers.IsClosed = codes "topology-is-closed"

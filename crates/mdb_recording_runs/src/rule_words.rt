@@ -6,11 +6,15 @@ ghost use Rattle.mdb_recording_runs.specs.RuleWords.{all_rules, all_server_rules
 use mdb_recording_servers::ServerRule;
 use mdb_recordings::Rule;
 
-const RULES: [Rule; 19] = [
+const RULES: [Rule; 26] = [
     Rule::PoolCreatedTwice,
     Rule::PoolNotCreated,
     Rule::PoolIsClosed,
+    Rule::PoolReadiedTwice,
+    Rule::ClearedWhilePaused,
+    Rule::LeftInPool,
     Rule::PoolNotReady,
+    Rule::CreatedWhilePaused,
     Rule::CreatedTwice,
     Rule::NotCreated,
     Rule::ReadiedTwice,
@@ -20,20 +24,26 @@ const RULES: [Rule; 19] = [
     Rule::ClosedTwice,
     Rule::IsClosed,
     Rule::ClosedWhileOut,
+    Rule::ClosedInUse,
+    Rule::NotCleared,
     Rule::IsStale,
     Rule::IsIdle,
     Rule::TooMany,
     Rule::TooManyPending,
+    Rule::NotStarted,
     Rule::HasNoReason,
     Rule::OutOfTurn,
 ];
 
-const SERVER_RULES: [ServerRule; 5] = [
+const SERVER_RULES: [ServerRule; 8] = [
     ServerRule::OpenedTwice,
     ServerRule::NotOpen,
     ServerRule::FromDiffers,
     ServerRule::NotChecked,
+    ServerRule::CheckedTwice,
     ServerRule::HasNoCause,
+    ServerRule::OpenedLate,
+    ServerRule::IsClosed,
 ];
 
 /// All rules of pools.
@@ -51,7 +61,11 @@ pub fn rule_word(rule: Rule) -> &'static str
         Rule::PoolCreatedTwice => "pool-created-twice",
         Rule::PoolNotCreated => "pool-not-created",
         Rule::PoolIsClosed => "pool-is-closed",
+        Rule::PoolReadiedTwice => "pool-ready-twice",
+        Rule::ClearedWhilePaused => "cleared-while-paused",
+        Rule::LeftInPool => "left-in-pool",
         Rule::PoolNotReady => "pool-not-ready",
+        Rule::CreatedWhilePaused => "created-while-paused",
         Rule::CreatedTwice => "created-twice",
         Rule::NotCreated => "not-created",
         Rule::ReadiedTwice => "ready-twice",
@@ -60,11 +74,13 @@ pub fn rule_word(rule: Rule) -> &'static str
         Rule::NotOut => "not-checked-out",
         Rule::ClosedTwice => "closed-twice",
         Rule::IsClosed => "is-closed",
-        Rule::ClosedWhileOut => "closed-while-out",
+        Rule::ClosedWhileOut | Rule::ClosedInUse => "closed-while-out",
+        Rule::NotCleared => "not-cleared",
         Rule::IsStale => "stale",
         Rule::IsIdle => "idle",
         Rule::TooMany => "too-many",
         Rule::TooManyPending => "too-many-pending",
+        Rule::NotStarted => "not-started",
         Rule::HasNoReason => "no-reason",
         Rule::OutOfTurn => "out-of-turn",
     }
@@ -86,6 +102,9 @@ pub fn server_rule_word(rule: ServerRule) -> &'static str
         ServerRule::NotOpen => "server-not-open",
         ServerRule::FromDiffers => "from-differs",
         ServerRule::NotChecked => "no-check",
+        ServerRule::CheckedTwice => "checked-twice",
         ServerRule::HasNoCause => "no-cause",
+        ServerRule::OpenedLate => "topology-opened-late",
+        ServerRule::IsClosed => "topology-is-closed",
     }
 }

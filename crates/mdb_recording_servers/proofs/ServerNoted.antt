@@ -1,5 +1,5 @@
 -- What is kept stands for one event more.
-use Rattle.std.proofs.Common.{ℕ, ◌≡◌, ◌==◌, Bool, true, false, if◌then◌else◌, List, ◌∷◌, Option, Some, None, refl, sym, ap, ◌∙◌, arith}
+use Rattle.std.proofs.Common.{ℕ, ◌+◌, ◌-◌, ◌≡◌, ◌==◌, Bool, true, false, if◌then◌else◌, List, ◌∷◌, Option, Some, None, refl, sym, ap, ◌∙◌, arith}
 use Rattle.mdb_recording_servers.specs.ServerEvents.{server_of_event}
 use Rattle.mdb_recording_servers.specs.ServerLives.{server_of, server_named, topology_of}
 use Rattle.mdb_recording_servers.specs.ServerRules.{known_of}
@@ -19,16 +19,16 @@ use Rattle.mdb_recording_servers.specs.declared.server.Server.{Server}
 same : (q p : ℕ) → (q == p) ≡ true → q ≡ p
 same q p e = grind arith
 
-abbrev made : Bool → Bool → Option ServerKind → Server
-made a b k = record { is_open = a; is_checked = b; kind = k }
+abbrev made : Bool → Bool → ℕ → Option ServerKind → Server
+made a b n k = record { is_open = a; is_checked = b; checks = n; kind = k }
 
 -- a server after an event of the one with that number, by whether it is the same
 abbrev step : Bool → ServerTold → Server → Server
-step b told.Opened x = made (if b then true else x.is_open) x.is_checked (if b then Some kinds.Unknown else x.kind)
-step b told.Closed x = made (if b then false else x.is_open) x.is_checked (if b then None else x.kind)
-step b (told.Changed from to) x = made x.is_open x.is_checked (if b then to else x.kind)
-step b told.CheckStarted x = made x.is_open (if b then true else x.is_checked) x.kind
-step b told.CheckEnded x = made x.is_open (if b then false else x.is_checked) x.kind
+step b told.Opened x = made (if b then true else x.is_open) (if b then false else x.is_checked) x.checks (if b then Some kinds.Unknown else x.kind)
+step b told.Closed x = made (if b then false else x.is_open) x.is_checked x.checks (if b then None else x.kind)
+step b (told.Changed from to) x = made x.is_open x.is_checked x.checks (if b then to else x.kind)
+step b told.CheckStarted x = made x.is_open (if b then true else x.is_checked) (if b then 1 + x.checks else x.checks) x.kind
+step b told.CheckEnded x = made x.is_open (if b then false else x.is_checked) (if b then x.checks - 1 else x.checks) x.kind
 
 stepped : (b : Bool) (t : ServerTold) (x : Server) → step b t x ≡ if b then server_after t x else x
 stepped true told.Opened x = refl

@@ -81,7 +81,21 @@ abbrev pub ends_check : ℕ → ServerEvent → Bool
 ends_check s (Server p CheckEnded) = p == s
 ends_check s _ = false
 
+-- a check of the server ends, or it is opened, from where on no check of it runs
+abbrev pub stops_checks : ℕ → ServerEvent → Bool
+stops_checks s (Server p CheckEnded) = p == s
+stops_checks s (Server p Opened) = p == s
+stops_checks s _ = false
+
 -- of the topology
+
+abbrev pub opens_topology : ServerEvent → Bool
+opens_topology TopologyOpened = true
+opens_topology _ = false
+
+abbrev pub closes_topology : ServerEvent → Bool
+closes_topology TopologyClosed = true
+closes_topology _ = false
 
 abbrev pub changes_topology : ServerEvent → Bool
 changes_topology TopologyChanged = true
@@ -106,6 +120,24 @@ abbrev pub ends_change : ServerEvent → Bool
 ends_change TopologyChanged = true
 ends_change TopologyClosed = true
 ends_change _ = false
+
+-- what a closed topology does not do: a server is opened, closed or changed, or it is changed or closed itself
+abbrev pub needs_topology : ServerEvent → Bool
+needs_topology (Server s Opened) = true
+needs_topology (Server s Closed) = true
+needs_topology (Server s (Changed from to)) = true
+needs_topology TopologyChanged = true
+needs_topology TopologyClosed = true
+needs_topology _ = false
+
+-- the topology is opened, or something is told of it or of a server, but for checks and its end
+abbrev pub begins_topology : ServerEvent → Bool
+begins_topology (Server s Opened) = true
+begins_topology (Server s Closed) = true
+begins_topology (Server s (Changed from to)) = true
+begins_topology TopologyOpened = true
+begins_topology TopologyChanged = true
+begins_topology _ = false
 
 -- it is no event of a check
 abbrev pub tells_state : ServerEvent → Bool

@@ -1,12 +1,12 @@
 -- The rules: when an event breaks one, by what the events before it tell of its server and of the topology.
 use Rattle.std.specs.Prelude.{Bool, false, not, ◌&&◌, ◌||◌, ◌==◌, List, Option, Some}
-use Rattle.mdb_recording_servers.specs.ServerEvents.{kind_number, server_of_event, opens_one, uses_one, starts_check_one, ends_check_one, from_told, ends_change}
+use Rattle.mdb_recording_servers.specs.ServerEvents.{kind_number, server_of_event, opens_one, uses_one, starts_check_one, ends_check_one, from_told, ends_change, opens_topology, needs_topology}
 use Rattle.mdb_recording_servers.specs.ServerLives.{server_named, topology_of}
 use Rattle.mdb_recording_servers.specs.declared.event.ServerEvent.{ServerEvent}
 use Rattle.mdb_recording_servers.specs.declared.event.ServerKind.{ServerKind}
 use Rattle.mdb_recording_servers.specs.declared.known.Known.{Known}
 use Rattle.mdb_recording_servers.specs.declared.rule.ServerRule.{ServerRule}
-use Rattle.mdb_recording_servers.specs.declared.rule.ServerRule.TheVariants.{OpenedTwice, NotOpen, FromDiffers, NotChecked, HasNoCause}
+use Rattle.mdb_recording_servers.specs.declared.rule.ServerRule.TheVariants.{OpenedTwice, NotOpen, FromDiffers, NotChecked, CheckedTwice, HasNoCause, OpenedLate, IsClosed}
 
 -- the two kinds differ, as far as both were told
 abbrev pub differs : Option ServerKind → Option ServerKind → Bool
@@ -22,9 +22,15 @@ is_broken NotOpen k e = (uses_one e || (starts_check_one e && k.topology.is_told
 -- a server changes from what it was
 is_broken FromDiffers k e = differs (from_told e) k.server.kind
 -- a check ends that began
-is_broken NotChecked k e = ends_check_one e && not k.server.is_checked
+is_broken NotChecked k e = ends_check_one e && k.server.checks == 0
+-- one check of a server runs at a time, where the recording tells when servers are opened
+is_broken CheckedTwice k e = starts_check_one e && (k.topology.is_told && k.server.is_checked)
 -- the topology changes for a cause that came after the change before, or for a server that is opened or closed right behind it
 is_broken HasNoCause k e = ends_change e && not (k.topology.had_cause || k.topology.has_move)
+-- the topology is opened first, and once
+is_broken OpenedLate k e = opens_topology e && k.topology.is_begun
+-- its end is told last, and once
+is_broken IsClosed k e = needs_topology e && k.topology.is_closed
 
 -- all that is known when an event comes after these
 abbrev pub known_of : List ServerEvent → ServerEvent → Known

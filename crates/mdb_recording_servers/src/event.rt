@@ -1,7 +1,7 @@
 //! What a driver's listener is told of its servers and its topology (SDAM, "Events").
 
 ghost use Rattle.std.specs.Prelude.{◌≡◌};
-ghost use Rattle.mdb_recording_servers.specs.ServerEvents.{ends_change, ends_check_one, from_told, kind_number, opens_one, server_of_event, starts_check_one, uses_one};
+ghost use Rattle.mdb_recording_servers.specs.ServerEvents.{ends_change, ends_check_one, from_told, kind_number, needs_topology, opens_one, opens_topology, server_of_event, starts_check_one, uses_one};
 
 /// The kind of a server (SDAM, "ServerType").
 #[derive(Clone, Copy, Debug)]
@@ -104,6 +104,26 @@ impl ServerEvent {
         matches!(
             self,
             ServerEvent::TopologyChanged | ServerEvent::TopologyClosed
+        )
+    }
+
+    pub(crate) fn opens_topology(&self) -> bool
+        ensures { result ≡ opens_topology self.now }
+    {
+        matches!(self, ServerEvent::TopologyOpened)
+    }
+
+    // It is nothing that a closed topology does.
+    pub(crate) fn needs_topology(&self) -> bool
+        ensures { result ≡ needs_topology self.now }
+    {
+        matches!(
+            self,
+            ServerEvent::Server(
+                _,
+                ServerTold::Opened | ServerTold::Closed | ServerTold::Changed(_, _)
+            ) | ServerEvent::TopologyChanged
+                | ServerEvent::TopologyClosed
         )
     }
 

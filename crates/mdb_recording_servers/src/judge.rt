@@ -52,7 +52,8 @@ impl ServerJudge {
         ensures topology { OnOk result (self.new.topology ≡ self.old.topology) }
     {
         if let ServerEvent::Server(number, told) = event {
-            self.servers.set(*number, server.after(told))?;
+            let after = server.after(told)?;
+            self.servers.set(*number, after)?;
         }
         Ok(())
     }

@@ -14,7 +14,10 @@ pub enum ServerRule {
     NotOpen,
     FromDiffers,
     NotChecked,
+    CheckedTwice,
     HasNoCause,
+    OpenedLate,
+    IsClosed,
 }
 
 fn differs(from: Option<ServerKind>, kind: Option<ServerKind>) -> bool
@@ -36,10 +39,15 @@ fn is_broken(rule: ServerRule, known: &Known, event: &ServerEvent) -> bool
             (event.uses() || (event.starts_check() && known.topology.is_told)) && !server.is_open
         }
         ServerRule::FromDiffers => differs(event.from(), server.kind),
-        ServerRule::NotChecked => event.ends_check() && !server.is_checked,
+        ServerRule::NotChecked => event.ends_check() && server.checks == 0,
+        ServerRule::CheckedTwice => {
+            event.starts_check() && (known.topology.is_told && server.is_checked)
+        }
         ServerRule::HasNoCause => {
             event.ends_change() && !(known.topology.had_cause || known.topology.has_move)
         }
+        ServerRule::OpenedLate => event.opens_topology() && known.topology.is_begun,
+        ServerRule::IsClosed => event.needs_topology() && known.topology.is_closed,
     }
 }
 

@@ -1,7 +1,7 @@
 -- What is kept stands for one event more.
 use Rattle.std.proofs.Common.{ℕ, ◌+◌, ◌<◌, ◌≡◌, ◌==◌, Bool, true, false, ◌&&◌, ◌||◌, not, if◌then◌else◌, List, [], ◌∷◌, Option, Some, None, refl, sym, ap, subst, ◌∙◌, arith}
-use Rattle.mdb_recordings.specs.Events.{begins, clears, pauses, id_of, starts_one, ends_wait}
-use Rattle.mdb_recordings.specs.Lives.{onto, life, lives, count, numbered, waits, place, connection_of, connection_named, caller_of, caller_numbered, facts_of, former_after, former_of, hands_out, turns_of}
+use Rattle.mdb_recordings.specs.Events.{begins, clears, pauses, id_of, starts_one, ends_check_out, ends_wait}
+use Rattle.mdb_recordings.specs.Lives.{onto, life, lives, count, numbered, waits, is_checking_out, place, connection_of, connection_named, caller_of, caller_numbered, facts_of, former_after, former_of, hands_out, turns_of}
 use Rattle.mdb_recordings.specs.Noting.{SetsNamed, SetsNumbered, GoesOn}
 use Rattle.mdb_recordings.specs.Rules.{glance_of}
 use Rattle.mdb_recordings.specs.Standing.{Stands}
@@ -121,19 +121,22 @@ connection-step at o (CheckedIn i) l j = go (i == j)
     go true = refl
     go false = refl
 
-abbrev caller_made : Bool → ℕ → Caller
-caller_made b n = record { is_waiting = b; place = n }
+abbrev caller_made : Bool → Bool → ℕ → Caller
+caller_made b c n = record { is_waiting = b; is_checking_out = c; place = n }
 
 -- what one event more tells of a numbered check-out
 caller-step : (at o : Option ℕ) (t : Told) (l : List Event) (j : ℕ) → caller_of j (record { at = at; caller = o; told = t } ∷ l) ≡ if_named o j (caller_after t (1 + numbered l) (caller_of j l)) (caller_of j l)
 caller-step at None t l j = refl
-caller-step at (Some i) t l j = go (i == j) (starts_one t) (ends_wait t)
+caller-step at (Some i) t l j = go (i == j) (starts_one t) (ends_wait t) (ends_check_out t)
   where
-    go : (b s e : Bool) → caller_made (if b && s then true else (if b && e then false else waits j l)) (if b && s then 1 + numbered l else place j l) ≡ (if b then (if s then caller_made true (1 + numbered l) else (if e then caller_made false (place j l) else caller_of j l)) else caller_of j l)
-    go true true e = refl
-    go true false true = refl
-    go true false false = refl
-    go false s e = refl
+    go : (b s e d : Bool) → caller_made (if b && s then true else (if b && e then false else waits j l)) (if b && s then true else (if b && d then false else is_checking_out j l)) (if b && s then 1 + numbered l else place j l)
+        ≡ (if b then (if s then caller_made true true (1 + numbered l) else caller_made (not e && waits j l) (not d && is_checking_out j l) (place j l)) else caller_of j l)
+    go true true e d = refl
+    go true false true true = refl
+    go true false true false = refl
+    go true false false true = refl
+    go true false false false = refl
+    go false s e d = refl
 
 -- what one event more tells of the order of check-outs
 turns-step : (at o : Option ℕ) (t : Told) (l : List Event) → turns_of (record { at = at; caller = o; told = t } ∷ l) ≡ turns_after t o (caller_numbered o l) (turns_of l)

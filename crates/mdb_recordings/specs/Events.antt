@@ -1,9 +1,10 @@
 -- What one event tells.
-use Rattle.std.specs.Prelude.{ℕ, Bool, true, false, ◌==◌, Option, Some, None}
+use Rattle.std.specs.Prelude.{ℕ, Bool, true, false, not, ◌==◌, Option, Some, None}
 use Rattle.mdb_recordings.specs.declared.event.Told.{Told}
 use Rattle.mdb_recordings.specs.declared.event.Told.TheVariants.{PoolCreated, PoolReady, PoolCleared, PoolClosed, ConnectionCreated, ConnectionReady, ConnectionClosed, CheckOutStarted, CheckOutFailed, CheckedOut, CheckedIn}
 use Rattle.mdb_recordings.specs.declared.event.CloseReason.{CloseReason}
-use Rattle.mdb_recordings.specs.declared.event.CloseReason.TheVariants.{Error}
+use Rattle.mdb_recordings.specs.declared.event.CloseReason.TheVariants.{Error, Stale}
+use Rattle.mdb_recordings.specs.declared.event.CloseReason.TheVariants as reasons
 
 -- of the pool
 
@@ -78,6 +79,14 @@ abbrev pub is_error : CloseReason → Bool
 is_error Error = true
 is_error _ = false
 
+abbrev pub is_stale : CloseReason → Bool
+is_stale Stale = true
+is_stale _ = false
+
+abbrev pub is_end : CloseReason → Bool
+is_end reasons.PoolClosed = true
+is_end _ = false
+
 -- a connection was closed for an error
 abbrev pub breaks_one : Told → Bool
 breaks_one (ConnectionClosed j reason) = is_error reason
@@ -87,6 +96,27 @@ breaks_one _ = false
 abbrev pub starts_one : Told → Bool
 starts_one CheckOutStarted = true
 starts_one _ = false
+
+-- connections to one service behind a load balancer were cleared
+abbrev pub clears_service : Told → Bool
+clears_service (PoolCleared all) = not all
+clears_service _ = false
+
+-- a connection was closed as stale
+abbrev pub closes_stale : Told → Bool
+closes_stale (ConnectionClosed j reason) = is_stale reason
+closes_stale _ = false
+
+-- a connection was closed for another reason than the end of its pool
+abbrev pub closes_in_open : Told → Bool
+closes_in_open (ConnectionClosed j reason) = not (is_end reason)
+closes_in_open _ = false
+
+-- a check-out ends: it gets a connection, or fails
+abbrev pub ends_check_out : Told → Bool
+ends_check_out (CheckedOut j) = true
+ends_check_out (CheckOutFailed reason) = true
+ends_check_out _ = false
 
 -- a check-out is served: it gets a connection, or one is created for it
 abbrev pub serves : Told → Bool

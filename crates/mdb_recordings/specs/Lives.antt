@@ -1,11 +1,11 @@
 -- What the events of one pool tell, newest first, since it was created.
 use Rattle.std.specs.Prelude.{ℕ, ◌+◌, ◌-◌, Bool, true, false, not, ◌&&◌, ◌||◌, ◌==◌, nat_lt, is_some, if◌then◌else◌, List, [], ◌∷◌, Option, Some, None}
-use Rattle.mdb_recordings.specs.Events.{begins, turns_ready, clears, pauses, closes_pool, creates_one, creates, readies_one, readies, closes, checks_out_one, checks_out, checks_in_one, frees, fails_one, breaks_one, rests, starts_one, ends_wait, serves}
+use Rattle.mdb_recordings.specs.Events.{begins, turns_ready, clears, clears_service, pauses, closes_pool, creates_one, creates, readies_one, readies, closes, checks_out_one, checks_out, checks_in_one, frees, fails_one, breaks_one, rests, starts_one, ends_check_out, ends_wait, serves}
 use Rattle.mdb_recordings.specs.declared.event.Event.{Event}
 use Rattle.mdb_recordings.specs.declared.event.Recorded.{Recorded}
 use Rattle.mdb_recordings.specs.declared.event.Limits.{Limits}
 use Rattle.mdb_recordings.specs.declared.event.Told.{Told}
-use Rattle.mdb_recordings.specs.declared.event.Told.TheVariants.{PoolCreated, ConnectionClosed}
+use Rattle.mdb_recordings.specs.declared.event.Told.TheVariants.{PoolCreated, ConnectionCreated, ConnectionClosed, CheckedOut, CheckedIn}
 use Rattle.mdb_recordings.specs.declared.connection.Connection.{Connection}
 use Rattle.mdb_recordings.specs.declared.facts.Facts.{Facts}
 use Rattle.mdb_recordings.specs.declared.former.Former.{Former}
@@ -78,6 +78,30 @@ abbrev pub dropped : List Event → ℕ
 dropped [] = 0
 dropped (e ∷ l) = if drops e.told l then 1 + dropped l else dropped l
 
+-- somebody has the connection
+abbrev pub is_held : ℕ → List Event → Bool
+is_held i l = is_on (checks_out i) (frees i) l
+
+-- the connection was handed out, came back, and lies in the pool
+abbrev pub lies : ℕ → List Event → Bool
+lies i l = was_since i (checks_out i) l && (not (is_held i l) && not (was_since i (closes i) l))
+
+-- one less, if so
+abbrev pub less_if : Bool → ℕ → ℕ
+less_if b n = if b then n - 1 else n
+
+-- how many connections lie in the pool after an event that comes after these, where so many lay there before
+abbrev pub lying_after : Told → List Event → ℕ → ℕ
+lying_after (CheckedIn i) l n = if is_held i l && not (was_since i (closes i) l) then 1 + n else n
+lying_after (CheckedOut i) l n = less_if (lies i l) n
+lying_after (ConnectionClosed i reason) l n = less_if (lies i l) n
+lying_after (ConnectionCreated i) l n = less_if (lies i l) n
+lying_after _ l n = n
+
+abbrev pub lying : List Event → ℕ
+lying [] = 0
+lying (e ∷ l) = lying_after e.told l (lying l)
+
 -- what the events tell of their pool
 abbrev pub facts_of : List Event → Facts
 facts_of l = record {
@@ -86,6 +110,7 @@ facts_of l = record {
   is_ready = is_on turns_ready pauses l;
   is_closed = was closes_pool l;
   has_error = was breaks_one l;
+  has_service_clear = was clears_service l;
   clears = count clears l;
   pauses = count pauses l;
   created = count creates_one l;
@@ -96,6 +121,7 @@ facts_of l = record {
   outs = count checks_out_one l;
   ins = count checks_in_one l;
   failed = count fails_one l;
+  lying = lying l;
 }
 
 -- A pool hands out connections while it is ready. Behind a load balancer it is ready from its creation to its end, whether it is told or not.
@@ -135,7 +161,7 @@ connection_of i l = record {
   is_wanted = was_wanted i l;
   is_readied = was_since i (readies i) l;
   is_closed = was_since i (closes i) l;
-  is_out = is_on (checks_out i) (frees i) l;
+  is_out = is_held i l;
   was_out = was_since i (checks_out i) l;
   generation = generation i l;
   readied_after = readied_after i l;
@@ -149,15 +175,19 @@ connection_named (Some i) l = connection_of i l
 
 -- of the pools that were at the address before
 
+-- check-outs that were started and did not end, where so many did not end before
+abbrev pub waiting : Facts → ℕ → ℕ
+waiting f n = (n + f.started) - (f.outs + f.failed)
+
 -- what is known of former pools after an event, which comes after these of the last pool
 abbrev pub former_after : Told → List Event → Former → Former
-former_after (PoolCreated limits) l x = record { is_closed = was closes_pool l || x.is_closed; left = x.left + live (facts_of l) }
+former_after (PoolCreated limits) l x = record { is_closed = was closes_pool l || x.is_closed; left = x.left + live (facts_of l); waiting = waiting (facts_of l) x.waiting }
 former_after (ConnectionClosed i reason) l x = if was (creates i) l then x else record x { left = x.left - 1 }
 former_after _ l x = x
 
--- whether one of them was closed, and how many of their connections are not
+-- whether one of them was closed, how many of their connections are not, and how many check-outs did not end
 abbrev pub former_of : ℕ → List Recorded → Former
-former_of p [] = record { is_closed = false; left = 0 }
+former_of p [] = record { is_closed = false; left = 0; waiting = 0 }
 former_of p (r ∷ h) = if r.pool == p then former_after r.event.told (life p h) (former_of p h) else former_of p h
 
 -- of numbered check-outs
@@ -182,9 +212,14 @@ abbrev pub waits : ℕ → List Event → Bool
 waits i [] = false
 waits i (e ∷ l) = if is_numbered i e.caller && starts_one e.told then true else (if is_numbered i e.caller && ends_wait e.told then false else waits i l)
 
+-- a check-out was started, and neither got a connection nor failed since
+abbrev pub is_checking_out : ℕ → List Event → Bool
+is_checking_out i [] = false
+is_checking_out i (e ∷ l) = if is_numbered i e.caller && starts_one e.told then true else (if is_numbered i e.caller && ends_check_out e.told then false else is_checking_out i l)
+
 -- what the events tell of the check-out with this number
 abbrev pub caller_of : ℕ → List Event → Caller
-caller_of i l = record { is_waiting = waits i l; place = place i l }
+caller_of i l = record { is_waiting = waits i l; is_checking_out = is_checking_out i l; place = place i l }
 
 -- what they tell of the one that is numbered, if one is
 abbrev pub caller_numbered : Option ℕ → List Event → Caller

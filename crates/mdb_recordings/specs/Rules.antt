@@ -1,7 +1,7 @@
 -- The rules: when an event breaks one, by what the events before it tell of its pool and of the connection that it names.
-use Rattle.std.specs.Prelude.{ℕ, ◌-◌, ◌*◌, Bool, true, false, not, ◌&&◌, ◌||◌, nat_lt, nat_le, List, Option, Some}
-use Rattle.mdb_recordings.specs.Events.{begins, creates_one, readies_one, closes_one, checks_out_one, checks_in_one, uses_one, goes_on, needs_pool, id_of, ends_wait}
-use Rattle.mdb_recordings.specs.Lives.{life, facts_of, former_of, hands_out, live, connection_named, turns_of, caller_numbered}
+use Rattle.std.specs.Prelude.{ℕ, ◌-◌, ◌*◌, Bool, true, false, not, ◌&&◌, ◌||◌, ◌==◌, nat_lt, nat_le, is_some, List, Option, Some}
+use Rattle.mdb_recordings.specs.Events.{begins, turns_ready, clears, closes_pool, closes_stale, closes_in_open, creates_one, readies_one, closes_one, checks_out_one, checks_in_one, uses_one, goes_on, needs_pool, id_of, ends_check_out, ends_wait}
+use Rattle.mdb_recordings.specs.Lives.{life, facts_of, former_of, hands_out, live, waiting, connection_named, turns_of, caller_numbered}
 use Rattle.mdb_recordings.specs.declared.event.Event.{Event}
 use Rattle.mdb_recordings.specs.declared.event.Recorded.{Recorded}
 use Rattle.mdb_recordings.specs.declared.event.FailReason.{FailReason}
@@ -14,9 +14,9 @@ use Rattle.mdb_recordings.specs.declared.facts.Facts.{Facts}
 use Rattle.mdb_recordings.specs.declared.former.Former.{Former}
 use Rattle.mdb_recordings.specs.declared.glance.Glance.{Glance}
 use Rattle.mdb_recordings.specs.declared.rule.Rule.{Rule}
-use Rattle.mdb_recordings.specs.declared.rule.Rule.TheVariants.{PoolCreatedTwice, PoolNotCreated, PoolIsClosed, PoolNotReady, CreatedTwice, NotCreated, ReadiedTwice, NotReadied, OutTwice, NotOut, ClosedTwice, IsClosed, ClosedWhileOut, IsStale, IsIdle, TooMany, TooManyPending, HasNoReason, OutOfTurn}
+use Rattle.mdb_recordings.specs.declared.rule.Rule.TheVariants.{PoolCreatedTwice, PoolNotCreated, PoolIsClosed, PoolReadiedTwice, ClearedWhilePaused, LeftInPool, PoolNotReady, CreatedWhilePaused, CreatedTwice, NotCreated, ReadiedTwice, NotReadied, OutTwice, NotOut, ClosedTwice, IsClosed, ClosedWhileOut, ClosedInUse, NotCleared, IsStale, IsIdle, TooMany, TooManyPending, NotStarted, HasNoReason, OutOfTurn}
 use Rattle.mdb_recordings.specs.declared.standard.Standard.{Standard}
-use Rattle.mdb_recordings.specs.declared.standard.Standard.TheVariants.{Current, Of2020}
+use Rattle.mdb_recordings.specs.declared.standard.Standard.TheVariants.{Current, Of2021, Of2020}
 use Rattle.mdb_recordings.specs.declared.turns.Turns.{Turns}
 
 -- connections that were created, and neither became ready nor were closed before
@@ -33,6 +33,14 @@ is_past most _ _ = false
 abbrev pub is_first : Facts → Connection → Bool
 is_first f c = not c.was_out && nat_le f.pauses c.readied_after
 
+-- the pool was created, and is neither ready nor closed
+abbrev pub is_paused : Facts → Bool
+is_paused f = f.is_created && (not f.is_closed && not (hands_out f))
+
+-- the connection was created before its pool was cleared, or may have been: clears of one service name no connections
+abbrev pub may_be_cleared : Facts → Connection → Bool
+may_be_cleared f c = f.has_service_clear || nat_lt c.generation f.clears
+
 -- The state of the pool, and of those before it at its address, allows no such reason: the end of a pool, only if one was closed; a
 -- connection's error, only if one was closed before, or the last isn't ready, was cleared, or closed some connection for an error.
 abbrev pub is_unfounded : FailReason → Former → Facts → Bool
@@ -45,44 +53,67 @@ abbrev pub fails_unfounded : Told → Former → Facts → Bool
 fails_unfounded (CheckOutFailed reason) x f = is_unfounded reason x f
 fails_unfounded _ x f = false
 
--- An event breaks a rule, by what was told before of its pool and of the connection that it names.
-abbrev pub is_broken : Rule → Facts → Connection → Event → Bool
+-- An event breaks a rule of pools, by what was told before of its pool and of the connection that it names.
+abbrev pub is_pool_broken : Rule → Facts → Connection → Event → Bool
 -- a pool is created, and not while the one before it at its address is open
-is_broken PoolCreatedTwice f c e = begins e.told && (f.is_created && not f.is_closed)
+is_pool_broken PoolCreatedTwice f c e = begins e.told && (f.is_created && not f.is_closed)
 -- a pool is created before all its other events
-is_broken PoolNotCreated f c e = not (begins e.told) && not f.is_created
+is_pool_broken PoolNotCreated f c e = not (begins e.told) && not f.is_created
 -- a closed pool only ends what it had: it neither turns ready, is cleared or closed, nor creates a connection or hands out one that wasn't pending
-is_broken PoolIsClosed f c e = f.is_closed && (needs_pool e.told || (checks_out_one e.told && not (is_first f c)))
+is_pool_broken PoolIsClosed f c e = f.is_closed && (needs_pool e.told || (checks_out_one e.told && not (is_first f c)))
+-- a pool that is ready is not turned ready again
+is_pool_broken PoolReadiedTwice f c e = turns_ready e.told && f.is_ready
+-- a pool is cleared while it is ready
+is_pool_broken ClearedWhilePaused f c e = clears e.told && is_paused f
+-- a pool closes what lies in it before its own end is told
+is_pool_broken LeftInPool f c e = closes_pool e.told && nat_lt 0 f.lying
 -- a pool is ready when it hands out a connection, or was when it created the one that it hands out first
-is_broken PoolNotReady f c e = checks_out_one e.told && (not (hands_out f) && not (c.is_wanted && is_first f c))
--- a connection is created once
-is_broken CreatedTwice f c e = creates_one e.told && c.is_created
--- a connection is created before its other events
-is_broken NotCreated f c e = uses_one e.told && not c.is_created
--- a connection becomes ready once
-is_broken ReadiedTwice f c e = readies_one e.told && c.is_readied
--- a connection is ready before it is handed out
-is_broken NotReadied f c e = checks_out_one e.told && not c.is_readied
--- a connection is checked out by one at a time
-is_broken OutTwice f c e = checks_out_one e.told && c.is_out
--- a connection is checked in by who has it
-is_broken NotOut f c e = checks_in_one e.told && not c.is_out
--- a connection is closed once
-is_broken ClosedTwice f c e = closes_one e.told && c.is_closed
--- a closed connection does nothing more
-is_broken IsClosed f c e = goes_on e.told && c.is_closed
--- a connection is closed only when it is checked in
-is_broken ClosedWhileOut f c e = closes_one e.told && c.is_out
--- no connection is handed out that was created before its pool was cleared, unless it was pending then
-is_broken IsStale f c e = checks_out_one e.told && (nat_lt c.generation f.clears && not (is_first f c))
--- no connection is handed out that was idle for longer than its pool allows
-is_broken IsIdle f c e = checks_out_one e.told && is_past f.limits.max_idle c.rested_at e.at
+is_pool_broken PoolNotReady f c e = checks_out_one e.told && (not (hands_out f) && not (c.is_wanted && is_first f c))
+-- a pool creates no connection while it is paused
+is_pool_broken CreatedWhilePaused f c e = creates_one e.told && is_paused f
 -- a pool has at most as many connections as its options allow
-is_broken TooMany f c e = creates_one e.told && (nat_lt 0 f.limits.max_size && nat_le f.limits.max_size (live f))
+is_pool_broken TooMany f c e = creates_one e.told && (nat_lt 0 f.limits.max_size && nat_le f.limits.max_size (live f))
 -- a pool has at most as many pending connections as its options allow, where they are told
-is_broken TooManyPending f c e = creates_one e.told && (nat_lt 0 f.limits.max_connecting && nat_le f.limits.max_connecting (pending f))
-is_broken HasNoReason f c e = false
-is_broken OutOfTurn f c e = false
+is_pool_broken TooManyPending f c e = creates_one e.told && (nat_lt 0 f.limits.max_connecting && nat_le f.limits.max_connecting (pending f))
+is_pool_broken rule f c e = false
+
+-- An event breaks a rule of connections.
+abbrev pub is_connection_broken : Rule → Facts → Connection → Event → Bool
+-- a connection is created once
+is_connection_broken CreatedTwice f c e = creates_one e.told && c.is_created
+-- a connection is created before its other events
+is_connection_broken NotCreated f c e = uses_one e.told && not c.is_created
+-- a connection becomes ready once
+is_connection_broken ReadiedTwice f c e = readies_one e.told && c.is_readied
+-- a connection is ready before it is handed out
+is_connection_broken NotReadied f c e = checks_out_one e.told && not c.is_readied
+-- a connection is checked out by one at a time
+is_connection_broken OutTwice f c e = checks_out_one e.told && c.is_out
+-- a connection is checked in by who has it
+is_connection_broken NotOut f c e = checks_in_one e.told && not c.is_out
+-- a connection is closed once
+is_connection_broken ClosedTwice f c e = closes_one e.told && c.is_closed
+-- a closed connection does nothing more, but that who had it at its end checks it in
+is_connection_broken IsClosed f c e = goes_on e.told && (c.is_closed && not (checks_in_one e.told && c.is_out))
+-- a connection is closed only when it is checked in
+is_connection_broken ClosedWhileOut f c e = closes_one e.told && c.is_out
+-- a connection is closed while it is checked out only behind a clear, or at the end of its pool
+is_connection_broken ClosedInUse f c e = closes_in_open e.told && (c.is_out && not (may_be_cleared f c))
+-- a connection that is closed as stale was created before its pool was cleared
+is_connection_broken NotCleared f c e = closes_stale e.told && (c.is_created && not (may_be_cleared f c))
+-- no connection is handed out that was created before its pool was cleared, unless it was pending then
+is_connection_broken IsStale f c e = checks_out_one e.told && (nat_lt c.generation f.clears && not (is_first f c))
+-- no connection is handed out that was idle for longer than its pool allows
+is_connection_broken IsIdle f c e = checks_out_one e.told && is_past f.limits.max_idle c.rested_at e.at
+is_connection_broken rule f c e = false
+
+abbrev pub is_broken : Rule → Facts → Connection → Event → Bool
+is_broken rule f c e = is_pool_broken rule f c e || is_connection_broken rule f c e
+
+-- A check-out ends that is known not to be under way: as many ended as were started, in this pool and those before it, or it has a number,
+-- and the one with that number ended or was never started. Which check-outs of a former pool are under way is not known.
+abbrev pub is_unstarted : Event → Former → Facts → Caller → Bool
+is_unstarted e x f c = ends_check_out e.told && (f.is_created && (waiting f x.waiting == 0 || (is_some e.caller && (x.waiting == 0 && not c.is_checking_out))))
 
 -- Check-outs that have numbers are served in the order of their starts: when the wait of one ends, none that was started after it was
 -- served before.
@@ -96,6 +127,8 @@ may_be_former t x = uses_one t && nat_lt 0 x.left
 -- an event breaks a rule, where so much is known before it
 abbrev pub is_seen : Rule → Glance → Event → Bool
 is_seen OutOfTurn g e = is_passed e.told g.turns g.caller
+-- a check-out is started before it ends, and ends once
+is_seen NotStarted g e = is_unstarted e g.former g.facts g.caller
 -- a check-out fails for a reason that the state of its pool allows
 is_seen HasNoReason g e = fails_unfounded e.told g.former g.facts
 is_seen rule g e = not (may_be_former e.told g.former) && is_broken rule g.facts g.connection e
@@ -104,7 +137,12 @@ is_seen rule g e = not (may_be_former e.told g.former) && is_broken rule g.facts
 -- cleared may close connections that are checked out.
 abbrev pub has_rule : Standard → Rule → Bool
 has_rule Current ClosedWhileOut = false
+has_rule Of2021 ClosedInUse = false
+has_rule Of2020 ClosedInUse = false
+has_rule Of2020 PoolReadiedTwice = false
+has_rule Of2020 ClearedWhilePaused = false
 has_rule Of2020 PoolNotReady = false
+has_rule Of2020 CreatedWhilePaused = false
 has_rule Of2020 TooManyPending = false
 has_rule standard rule = true
 

@@ -1,6 +1,8 @@
 -- What stands in the tables of pools and connections.
 use Rattle.std.specs.Prelude.{ℕ, Bool, ◌&&◌, ◌==◌, [], unwrap_or}
-use Rattle.std.specs.HashMap.{get}
+use Rattle.std.specs.BTreeMap.{get}
+use Rattle.std.specs.HashMap as hashed
+use Rattle.std.specs.Ordering.{nat_cmp, ordering_then}
 use Rattle.mdb_recordings.specs.Lives.{caller_of, connection_of, facts_of, former_of, turns_of}
 use Rattle.mdb_recordings.specs.declared.caller.Caller.{Caller}
 use Rattle.mdb_recordings.specs.declared.callers.Callers.{Callers}
@@ -17,9 +19,9 @@ same_key a b c x y z = ((a == x) && (b == y)) && (c == z)
 abbrev pub no_connection : Connection
 no_connection = connection_of 0 []
 
--- the connection i of the pool that was created so often at address p
+-- the connection i of the pool that was created so often at address p; keys are in the order of their first numbers, then of the second, then of the third
 abbrev pub connection_at : Connections → ℕ → ℕ → ℕ → Connection
-connection_at t p n i = unwrap_or (get (λ x y. same_key x.0 x.1 x.2 y.0 y.1 y.2) t.map (p, n, i)) no_connection
+connection_at t p n i = unwrap_or (get (λ x y. ordering_then (ordering_then (nat_cmp x.0 y.0) (nat_cmp x.1 y.1)) (nat_cmp x.2 y.2)) t.map (p, n, i)) no_connection
 
 -- a check-out of which nothing was told
 abbrev pub no_caller : Caller
@@ -27,11 +29,11 @@ no_caller = caller_of 0 []
 
 -- the check-out i of the pool that was created so often at address p
 abbrev pub caller_at : Callers → ℕ → ℕ → ℕ → Caller
-caller_at t p n i = unwrap_or (get (λ x y. same_key x.0 x.1 x.2 y.0 y.1 y.2) t.map (p, n, i)) no_caller
+caller_at t p n i = unwrap_or (get (λ x y. ordering_then (ordering_then (nat_cmp x.0 y.0) (nat_cmp x.1 y.1)) (nat_cmp x.2 y.2)) t.map (p, n, i)) no_caller
 
 -- an address at which nothing was told
 abbrev pub no_pool : Pool
 no_pool = record { lives = 0; former = former_of 0 []; facts = facts_of []; turns = turns_of [] }
 
 abbrev pub pool_at : Pools → ℕ → Pool
-pool_at t p = unwrap_or (get (λ x y. x == y) t.map p) no_pool
+pool_at t p = unwrap_or (hashed.get (λ x y. x == y) t.map p) no_pool

@@ -10,6 +10,8 @@ use crate::event::Told;
 pub struct Caller {
     /// It was started, and neither served nor failed since.
     pub is_waiting: bool,
+    /// It was started, and neither got a connection nor failed since.
+    pub is_checking_out: bool,
     /// Its place among the numbered check-outs, in the order of their starts, from 1 on.
     pub place: u64,
 }
@@ -18,6 +20,7 @@ impl Caller {
     /// Nothing was told of it.
     pub const UNTOLD: Caller = Caller {
         is_waiting: false,
+        is_checking_out: false,
         place: 0,
     };
 
@@ -28,15 +31,15 @@ impl Caller {
         if told.starts() {
             Caller {
                 is_waiting: true,
+                is_checking_out: true,
                 place,
             }
-        } else if told.ends_wait() {
+        } else {
             Caller {
-                is_waiting: false,
+                is_waiting: !told.ends_wait() && self.is_waiting,
+                is_checking_out: !told.ends_check_out() && self.is_checking_out,
                 ..self
             }
-        } else {
-            self
         }
     }
 }

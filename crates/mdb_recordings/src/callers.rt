@@ -7,12 +7,12 @@ use crate::caller::Caller;
 use crate::connections::Key;
 use mdb_base::OutOfMemory;
 use std::alloc::Global;
-use std::collections::HashMap;
+use std::collections::BTreeMap;
 
 /// The numbered check-outs of all pools.
 #[derive(Drop)]
 pub struct Callers {
-    pub map: HashMap<Key, Caller>,
+    pub map: BTreeMap<Key, Caller>,
 }
 
 impl Callers {
@@ -21,7 +21,7 @@ impl Callers {
         ensures { (p n i : ℕ) → caller_at result p n i ≡ no_caller }
     {
         Callers {
-            map: HashMap::new(alloc),
+            map: BTreeMap::new(alloc),
         }
     }
 

@@ -6,7 +6,7 @@ ghost use Rattle.mdb_recordings.specs.Tables.{connection_at, no_connection, same
 use crate::connection::Connection;
 use mdb_base::OutOfMemory;
 use std::alloc::Global;
-use std::collections::HashMap;
+use std::collections::BTreeMap;
 
 /// A pool by the number of its address, how often one was created there, and what has a number there: a connection by its id, or a check-out.
 pub type Key = (u32, u64, u64);
@@ -14,7 +14,7 @@ pub type Key = (u32, u64, u64);
 /// The connections of all pools.
 #[derive(Drop)]
 pub struct Connections {
-    pub map: HashMap<Key, Connection>,
+    pub map: BTreeMap<Key, Connection>,
 }
 
 impl Connections {
@@ -23,7 +23,7 @@ impl Connections {
         ensures { (p n i : ℕ) → connection_at result p n i ≡ no_connection }
     {
         Connections {
-            map: HashMap::new(alloc),
+            map: BTreeMap::new(alloc),
         }
     }
 

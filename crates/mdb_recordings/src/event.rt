@@ -1,7 +1,7 @@
 //! What a driver's listener is told of its pools (CMAP, "Connection Pool Monitoring").
 
 ghost use Rattle.std.specs.Prelude.{◌≡◌};
-ghost use Rattle.mdb_recordings.specs.Events.{begins, creates_one, readies_one, closes_one, checks_out_one, checks_in_one, id_of, uses_one, goes_on, needs_pool, starts_one, ends_wait, serves};
+ghost use Rattle.mdb_recordings.specs.Events.{begins, clears, closes_in_open, closes_pool, closes_stale, turns_ready, creates_one, readies_one, closes_one, checks_out_one, checks_in_one, id_of, uses_one, goes_on, needs_pool, starts_one, ends_check_out, ends_wait, serves};
 
 /// The options with which a pool was created.
 #[derive(Clone, Copy, Debug)]
@@ -100,6 +100,41 @@ impl Told {
         )
     }
 
+    pub(crate) fn turns_ready(&self) -> bool
+        ensures { result ≡ turns_ready self.now }
+    {
+        matches!(self, Told::PoolReady)
+    }
+
+    // All connections are cleared.
+    pub(crate) fn clears(&self) -> bool
+        ensures { result ≡ clears self.now }
+    {
+        matches!(self, Told::PoolCleared(true))
+    }
+
+    pub(crate) fn closes_pool(&self) -> bool
+        ensures { result ≡ closes_pool self.now }
+    {
+        matches!(self, Told::PoolClosed)
+    }
+
+    pub(crate) fn closes_stale(&self) -> bool
+        ensures { result ≡ closes_stale self.now }
+    {
+        matches!(self, Told::ConnectionClosed(_, CloseReason::Stale))
+    }
+
+    // It closes a connection for another reason than the end of its pool.
+    pub(crate) fn closes_in_open(&self) -> bool
+        ensures { result ≡ closes_in_open self.now }
+    {
+        match self {
+            Told::ConnectionClosed(_, reason) => !matches!(reason, CloseReason::PoolClosed),
+            _ => false,
+        }
+    }
+
     pub(crate) fn creates(&self) -> bool
         ensures { result ≡ creates_one self.now }
     {
@@ -144,6 +179,13 @@ impl Told {
             self,
             Told::CheckedOut(_) | Told::ConnectionCreated(_) | Told::CheckOutFailed(_)
         )
+    }
+
+    // It ends a check-out: it gets a connection, or fails.
+    pub(crate) fn ends_check_out(&self) -> bool
+        ensures { result ≡ ends_check_out self.now }
+    {
+        matches!(self, Told::CheckedOut(_) | Told::CheckOutFailed(_))
     }
 
     // It serves a check-out: it gets a connection, or one is created for it.

@@ -1,8 +1,8 @@
 //! What is known of one pool.
 
 ghost use Rattle.std.specs.Prelude.{◌≡◌, ◌+◌, ◌-◌, IfOk, if◌then◌else◌};
-ghost use Rattle.mdb_recordings.specs.Lives.{hands_out, live};
-ghost use Rattle.mdb_recordings.specs.Steps.{facts_after, facts_after_connection, facts_once_closed};
+ghost use Rattle.mdb_recordings.specs.Lives.{hands_out, live, waiting};
+ghost use Rattle.mdb_recordings.specs.Steps.{facts_after, facts_after_connection, facts_once_closed, is_lying, lying_without};
 
 use crate::connection::Connection;
 use crate::event::{CloseReason, Limits, Told};
@@ -17,6 +17,8 @@ pub struct Facts {
     pub is_closed: bool,
     /// Some connection was closed for an error.
     pub has_error: bool,
+    /// Connections to one service were cleared.
+    pub has_service_clear: bool,
     /// How often all of it was cleared.
     pub clears: u64,
     /// How often it was cleared or closed.
@@ -32,6 +34,8 @@ pub struct Facts {
     pub outs: u64,
     pub ins: u64,
     pub failed: u64,
+    /// Connections that were handed out, came back, and lie in the pool.
+    pub lying: u64,
 }
 
 // A count past 2^64 - 1 is more than memory could have brought.
@@ -57,6 +61,22 @@ pub(crate) fn hands_out(facts: &Facts) -> bool
     facts.is_ready || (facts.limits.is_load_balanced && !facts.is_closed)
 }
 
+/// Check-outs that were started and did not end, where so many did not end before.
+pub(crate) fn waiting(facts: &Facts, before: u64) -> Result<u64, OutOfMemory>
+    ensures { IfOk result (λ n. n ≡ waiting facts.now before) }
+{
+    let started = before.checked_add(facts.started).ok_or(OutOfMemory)?;
+    let ended = facts.outs.checked_add(facts.failed).ok_or(OutOfMemory)?;
+    Ok(started.saturating_sub(ended))
+}
+
+// It was handed out, came back, and lies in its pool.
+fn is_lying(connection: &Connection) -> bool
+    ensures { result ≡ is_lying connection.now }
+{
+    connection.was_out && (!connection.is_out && !connection.is_closed)
+}
+
 /// Connections that were created and not closed.
 pub(crate) fn live(facts: &Facts) -> u64
     ensures { result ≡ live facts.now }
@@ -77,6 +97,7 @@ impl Facts {
         is_ready: false,
         is_closed: false,
         has_error: false,
+        has_service_clear: false,
         clears: 0,
         pauses: 0,
         created: 0,
@@ -87,6 +108,7 @@ impl Facts {
         outs: 0,
         ins: 0,
         failed: 0,
+        lying: 0,
     };
 
     /// After an event that may name the connection.
@@ -113,6 +135,10 @@ impl Facts {
                     ..self
                 })
             }
+            Told::PoolCleared(false) => Ok(Facts {
+                has_service_clear: true,
+                ..self
+            }),
             Told::PoolClosed => {
                 let pauses = one_more(self.pauses)?;
                 Ok(Facts {
@@ -126,6 +152,17 @@ impl Facts {
         }
     }
 
+    // How many connections lie in it, without this one.
+    fn lying_without(&self, connection: &Connection) -> u64
+        ensures { result ≡ lying_without connection.now self.now }
+    {
+        if is_lying(connection) {
+            self.lying.saturating_sub(1)
+        } else {
+            self.lying
+        }
+    }
+
     // After an event of a connection.
     fn after_connection(self, told: &Told, connection: &Connection) -> Result<Facts, OutOfMemory>
         ensures { IfOk result (λ x. x ≡ facts_after_connection told.now connection.now self) }
@@ -133,7 +170,12 @@ impl Facts {
         match told {
             Told::ConnectionCreated(_) => {
                 let created = one_more(self.created)?;
-                Ok(Facts { created, ..self })
+                let lying = self.lying_without(connection);
+                Ok(Facts {
+                    created,
+                    lying,
+                    ..self
+                })
             }
             Told::ConnectionReady(_) => {
                 let readied = one_more(self.readied)?;
@@ -150,11 +192,18 @@ impl Facts {
             }
             Told::CheckedOut(_) => {
                 let outs = one_more(self.outs)?;
-                Ok(Facts { outs, ..self })
+                let lying = self.lying_without(connection);
+                Ok(Facts {
+                    outs,
+                    lying,
+                    ..self
+                })
             }
             Told::CheckedIn(_) => {
                 let ins = one_more(self.ins)?;
-                Ok(Facts { ins, ..self })
+                let is_back = connection.is_out && !connection.is_closed;
+                let lying = one_more_if(is_back, self.lying)?;
+                Ok(Facts { ins, lying, ..self })
             }
             _ => Ok(self),
         }
@@ -167,10 +216,12 @@ impl Facts {
         let is_dropped = connection.is_created && !connection.is_readied;
         let dropped = one_more_if(is_dropped, self.dropped)?;
         let has_error = matches!(reason, CloseReason::Error) || self.has_error;
+        let lying = self.lying_without(connection);
         Ok(Facts {
             has_error,
             closed,
             dropped,
+            lying,
             ..self
         })
     }

@@ -1,7 +1,8 @@
 //! The rules that a driver's pools keep, and when an event breaks one.
 
-ghost use Rattle.std.specs.Prelude.{◌≡◌, ◌-◌, List};
-ghost use Rattle.mdb_recordings.specs.Rules.{breaks, fails_unfounded, glance_of, has_rule, is_broken, is_first, is_passed, is_past, is_seen, is_unfounded, may_be_former, pending};
+ghost use Rattle.std.specs.Prelude.{◌≡◌, ◌==◌, ◌-◌, List};
+ghost use Rattle.mdb_recordings.specs.Lives.{waiting};
+ghost use Rattle.mdb_recordings.specs.Rules.{breaks, fails_unfounded, glance_of, has_rule, is_broken, is_connection_broken, is_first, is_passed, is_past, is_paused, is_pool_broken, is_seen, is_unfounded, is_unstarted, may_be_cleared, may_be_former, pending};
 ghost use Rattle.mdb_recordings.specs.declared.event.Recorded.{Recorded as Event_};
 
 use crate::caller::Caller;
@@ -19,7 +20,11 @@ pub enum Rule {
     PoolCreatedTwice,
     PoolNotCreated,
     PoolIsClosed,
+    PoolReadiedTwice,
+    ClearedWhilePaused,
+    LeftInPool,
     PoolNotReady,
+    CreatedWhilePaused,
     CreatedTwice,
     NotCreated,
     ReadiedTwice,
@@ -29,10 +34,13 @@ pub enum Rule {
     ClosedTwice,
     IsClosed,
     ClosedWhileOut,
+    ClosedInUse,
+    NotCleared,
     IsStale,
     IsIdle,
     TooMany,
     TooManyPending,
+    NotStarted,
     HasNoReason,
     OutOfTurn,
 }
@@ -92,14 +100,33 @@ pub fn has_rule(standard: Standard, rule: Rule) -> bool
 {
     match (standard, rule) {
         (Standard::Current, Rule::ClosedWhileOut) => false,
+        (Standard::Of2021, Rule::ClosedInUse) => false,
+        (Standard::Of2020, Rule::ClosedInUse) => false,
+        (Standard::Of2020, Rule::PoolReadiedTwice) => false,
+        (Standard::Of2020, Rule::ClearedWhilePaused) => false,
         (Standard::Of2020, Rule::PoolNotReady) => false,
+        (Standard::Of2020, Rule::CreatedWhilePaused) => false,
         (Standard::Of2020, Rule::TooManyPending) => false,
         _ => true,
     }
 }
 
-fn is_broken(rule: Rule, f: &Facts, c: &Connection, e: &Event) -> bool
-    ensures { result ≡ is_broken rule f.now c.now e.now }
+// The pool was created, and is neither ready nor closed.
+fn is_paused(facts: &Facts) -> bool
+    ensures { result ≡ is_paused facts.now }
+{
+    facts.is_created && (!facts.is_closed && !hands_out(facts))
+}
+
+// The connection was created before its pool was cleared, or may have been.
+fn may_be_cleared(facts: &Facts, connection: &Connection) -> bool
+    ensures { result ≡ may_be_cleared facts.now connection.now }
+{
+    facts.has_service_clear || connection.generation < facts.clears
+}
+
+fn is_pool_broken(rule: Rule, f: &Facts, c: &Connection, e: &Event) -> bool
+    ensures { result ≡ is_pool_broken rule f.now c.now e.now }
 {
     let told = &e.told;
     match rule {
@@ -108,9 +135,28 @@ fn is_broken(rule: Rule, f: &Facts, c: &Connection, e: &Event) -> bool
         Rule::PoolIsClosed => {
             f.is_closed && (told.needs_pool() || (told.checks_out() && !is_first(f, c)))
         }
+        Rule::PoolReadiedTwice => told.turns_ready() && f.is_ready,
+        Rule::ClearedWhilePaused => told.clears() && is_paused(f),
+        Rule::LeftInPool => told.closes_pool() && 0 < f.lying,
         Rule::PoolNotReady => {
             told.checks_out() && (!hands_out(f) && !(c.is_wanted && is_first(f, c)))
         }
+        Rule::CreatedWhilePaused => told.creates() && is_paused(f),
+        Rule::TooMany => {
+            told.creates() && (0 < f.limits.max_size && f.limits.max_size <= live(f))
+        }
+        Rule::TooManyPending => {
+            told.creates() && (0 < f.limits.max_connecting && f.limits.max_connecting <= pending(f))
+        }
+        _ => false,
+    }
+}
+
+fn is_connection_broken(rule: Rule, f: &Facts, c: &Connection, e: &Event) -> bool
+    ensures { result ≡ is_connection_broken rule f.now c.now e.now }
+{
+    let told = &e.told;
+    match rule {
         Rule::CreatedTwice => told.creates() && c.is_created,
         Rule::NotCreated => told.uses() && !c.is_created,
         Rule::ReadiedTwice => told.readies() && c.is_readied,
@@ -118,18 +164,35 @@ fn is_broken(rule: Rule, f: &Facts, c: &Connection, e: &Event) -> bool
         Rule::OutTwice => told.checks_out() && c.is_out,
         Rule::NotOut => told.checks_in() && !c.is_out,
         Rule::ClosedTwice => told.closes() && c.is_closed,
-        Rule::IsClosed => told.goes_on() && c.is_closed,
+        Rule::IsClosed => told.goes_on() && (c.is_closed && !(told.checks_in() && c.is_out)),
         Rule::ClosedWhileOut => told.closes() && c.is_out,
+        Rule::ClosedInUse => told.closes_in_open() && (c.is_out && !may_be_cleared(f, c)),
+        Rule::NotCleared => told.closes_stale() && (c.is_created && !may_be_cleared(f, c)),
         Rule::IsStale => told.checks_out() && (c.generation < f.clears && !is_first(f, c)),
         Rule::IsIdle => told.checks_out() && is_past(f.limits.max_idle, c.rested_at, e.at),
-        Rule::TooMany => {
-            told.creates() && (0 < f.limits.max_size && f.limits.max_size <= live(f))
-        }
-        Rule::TooManyPending => {
-            told.creates() && (0 < f.limits.max_connecting && f.limits.max_connecting <= pending(f))
-        }
-        Rule::HasNoReason | Rule::OutOfTurn => false,
+        _ => false,
     }
+}
+
+fn is_broken(rule: Rule, f: &Facts, c: &Connection, e: &Event) -> bool
+    ensures { result ≡ is_broken rule f.now c.now e.now }
+{
+    is_pool_broken(rule, f, c, e) || is_connection_broken(rule, f, c, e)
+}
+
+// Check-outs of the pool and of those before it that were started did all end.
+fn all_ended(former: &Former, facts: &Facts) -> bool
+    ensures { result ≡ (waiting facts.now former.now.waiting == 0) }
+{
+    let started = u128::from(former.waiting) + u128::from(facts.started);
+    started <= u128::from(facts.outs) + u128::from(facts.failed)
+}
+
+fn is_unstarted(event: &Event, former: &Former, facts: &Facts, caller: &Caller) -> bool
+    ensures { result ≡ is_unstarted event.now former.now facts.now caller.now }
+{
+    let is_over = event.caller.is_some() && (former.waiting == 0 && !caller.is_checking_out);
+    event.told.ends_check_out() && (facts.is_created && (all_ended(former, facts) || is_over))
 }
 
 // The event ends the wait of the caller, and one that was started after it was served before.
@@ -151,6 +214,7 @@ fn is_seen(rule: Rule, known: &Glance, event: &Event) -> bool
 {
     match rule {
         Rule::OutOfTurn => is_passed(&event.told, &known.turns, &known.caller),
+        Rule::NotStarted => is_unstarted(event, &known.former, &known.facts, &known.caller),
         Rule::HasNoReason => fails_unfounded(&event.told, &known.former, &known.facts),
         _ => {
             !may_be_former(&event.told, &known.former)

@@ -1,11 +1,9 @@
-use Rattle.std.proofs.Common.{◌≡◌, Bool, true, false, if◌then◌else◌, Some, Option, unwrap_or, refl, ap, ◌∙◌}
+use Rattle.std.proofs.Common.{unwrap_or, ap, ◌∙◌}
 use Rattle.mdb_recordings.specs.Tables.{same_key, no_connection}
+use Rattle.mdb_recordings.proofs.Keys.{same_numbers, put}
 use Rattle.mdb_recordings.proofs.connections.Connections.set.Goals as goal
 
--- the value that was put, or the one that stood there
-put : {V : Type 0} (b : Bool) (v : V) (o : Option V) (none : V) → unwrap_or (if b then (Some v) else o) none ≡ if b then v else unwrap_or o none
-put true v o none = refl
-put false v o none = refl
-
 pub returns : goal.returns
-returns c = λ a b d. ap (λ o. unwrap_or o no_connection) (c.in_ok-insert.ensures.updates.0 (a, b, d)) ∙ put (same_key c.args.key.0 c.args.key.1 c.args.key.2 a b d) c.args.connection _ no_connection
+returns c = λ a b d.
+    ap (λ o. unwrap_or o no_connection) (c.in_ok-insert.ensures.updates.0 (a, b, d))
+    ∙ put _ (same_key c.args.key.0 c.args.key.1 c.args.key.2 a b d) c.args.connection _ no_connection (same_numbers c.args.key.0 c.args.key.1 c.args.key.2 a b d)
