@@ -93,8 +93,9 @@ def play(built: Built) -> list[Command]:
     return [command(PLAY / "mdb-play", "check", *plans), command(built.python, *PYTEST, "tests", folder=PLAY, **variables)]
 
 
-def play_go(_: Built) -> list[Command]:
-    return [command("go", "test", "-count=1", "./...", folder=PLAY / "go", MDB_PLAY=PLAY / "mdb-play", GOPROXY="off")]
+def play_go(built: Built) -> list[Command]:
+    variables = {"MDB_PLAY": PLAY / "mdb-play", "MDB_LIBRARY": built.library / "libmdb.so", "GOPROXY": "off"}
+    return [command("go", "test", "-count=1", "./...", folder=PLAY / "go", **variables)]
 
 
 def storm(built: Built) -> list[Command]:
@@ -128,7 +129,7 @@ PARTS = {
         Part("hostile", "the live client: damaged answers under load, with sanitizers", NATIVE, AUDITED, live("hostile", targets=("sanitized",))),
         Part("soak", "the live client: half a minute of blows", NATIVE, (LIBRARY,), live("soak", "--seconds", 30)),
         Part("play", "the played servers, their verdicts, mutants of a client", PLAYING, (LIBRARY, "mdb_fleet", "mdb_recorded"), play),
-        Part("play-go", "the helper for tests in Go", ("go", "python bson"), (), play_go),
+        Part("play-go", "the helper for tests in Go", ("go", "python bson"), (LIBRARY,), play_go),
         Part("python", "the binding for Python", ("python pytest",), (LIBRARY, "mdb_script"), python),
         Part("go", "the binding for Go", ("go",), (LIBRARY,), go),
         Part("rust", "the binding for Rust", ("cargo",), (LIBRARY,), rust),

@@ -2,6 +2,10 @@
 
 import sys
 
-from .cli import main
+try:
+    from .cli import main
+except ImportError as why:
+    print(f"mdb-play: {why}", file=sys.stderr)
+    sys.exit(2)
 
 sys.exit(main())

@@ -14,7 +14,7 @@ from .points import HELLOS, Decision, Point
 from .service import Served, refused, serve, writes
 from .sessions import in_transaction, operation_of
 from .view import spelled
-from .watch import Command, End, Link, Outcome, Told, describe
+from .watch import Command, End, Link, Outcome, Told, describe, version_of
 from .wire import MORE_TO_COME, Document, Malformed, Request, packed, read_request
 from .wording import failure
 
@@ -49,7 +49,7 @@ class Conversation:
         self._number, self._messages = world.connections, 0
         self.link = world.watch.open_link(member.number, world.now())
         self._running: Command | None = None
-        self._ended, self._left = False, asyncio.Event()
+        self._ended, self._left, self._asked = False, asyncio.Event(), 0.0
 
     def cut(self) -> None:
         """The server resets it."""
@@ -177,6 +177,7 @@ class Conversation:
         kind = "new" if first else "monitor" if known is not None else "poll"
         answers: int | None = None
         while True:
+            self._asked = self._world.now()
             if known is not None and most is not None and known == self._member.version():
                 await self._until(self._member.changed, int(most) / 1000)
             await self._pause()
@@ -201,7 +202,7 @@ class Conversation:
             if fate.damage != "none":
                 self._world.watch.faults.append((self._world.now(), member.number))
             elif fate.code is None:
-                self._world.watch.told.append(_told(self._world.now(), self.link, said))
+                self._world.watch.told.append(_told(self._world.now(), self._asked, self.link, said))
         await self._phase(decisions, "after-reply", fate)
 
     def _note_wrong(self, damage: str) -> None:
@@ -241,7 +242,7 @@ class Conversation:
         self._note_wrong(fate.damage)
         await self._send(packed(request, said, self._world.next_reply()), fate.damage)
         fine = said["ok"] == 1.0 and "writeErrors" not in said and "writeConcernError" not in said
-        command.code = None if fine else _code(said)
+        command.code, command.version = (None, None) if fine else (_code(said), version_of(said))
         unseen = fate.damage not in ("none", "nothing")
         self._finish(command, Outcome.UNANSWERED if unseen else Outcome.ACKNOWLEDGED if fine else Outcome.FAILED)
 
@@ -276,10 +277,11 @@ class Conversation:
         return said if branched == self._world.elections else refused(member, request, 189, self.link.modern)
 
 
-def _told(at: float, link: Link, said: Document) -> Told:
+def _told(at: float, asked: float, link: Link, said: Document) -> Told:
     """What a hello said of who is primary."""
     election = said.get("electionId")
-    return Told(at, link, bool(said.get("isWritablePrimary", said.get("ismaster"))), 0 if election is None else int(str(election), 16), spelled(said))
+    writable = bool(said.get("isWritablePrimary", said.get("ismaster")))
+    return Told(at, link, writable, 0 if election is None else int(str(election), 16), spelled(said), asked, version_of(said))
 
 
 def _code(said: Document) -> int:

@@ -77,8 +77,8 @@ def _crown(world: "World", member: "Member") -> None:
             if other is not member and other.believes:
                 other.leave()
     member.rejoin(keeps)
-    world.elections += 1
     world.fleet.elect(member.number)
+    _reconfigure_by(world, [member])
     member.heard, member.primary = world.elections, member.number
     member.tell(False)
 
@@ -210,12 +210,18 @@ def _names(world: "World", numbers: str) -> None:
 
 
 def _configure(world: "World") -> None:
-    """The set's version rises: by the primary where there is one."""
-    primaries = [it for it in world.members if it.believes]
-    for member in primaries:
-        world.fleet.reconfigure(member.number)
-    world.shift += not primaries
+    """The set's version rises: by who believes to be the primary, or by the winner of the next election."""
+    world.changes += 1
+    _reconfigure_by(world, [it for it in world.members if it.believes])
     world.tell()
+
+
+def _reconfigure_by(world: "World", primaries: list["Member"]) -> None:
+    """They make the changes of the configuration that are still to be made."""
+    for member in primaries:
+        for _ in range(world.changes):
+            world.fleet.reconfigure(member.number)
+    world.changes = 0 if primaries else world.changes
 
 
 def _range(words: str) -> tuple[float, float]:

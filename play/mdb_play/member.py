@@ -211,7 +211,7 @@ class Member:
         others = [self.world.members[it] for it in self.world.configured]
         said: Document = {
             "setName": self.name,
-            "setVersion": told.set_version + self.world.shift,
+            "setVersion": told.set_version,
             "me": self.address,
             "secondary": not told.primary and self.role == "member",
             "hosts": [it.address for it in others if not it.hidden and it.role != "arbiter"],

@@ -12,9 +12,11 @@ from typing import Callable, Iterable
 from . import proved
 from .running import Run
 from .view import late_news, of_client, of_library
-from .watch import Command, End, Link, Outcome, Told
+from .watch import Command, End, Link, Outcome, Told, Watch
 from .wording import NOT_WRITABLE, RETRYABLE, SHUTTING_DOWN
 
+# An answer and one that was sent so many seconds after it may be read the other way round.
+ON_ITS_WAY = 0.02
 # A thread of the client may have chosen its server and its connection so many seconds ago.
 GRACE = 1.0
 # A connection on which a wrong answer came may be closed so many seconds late.
@@ -202,12 +204,21 @@ def stale_connections(run: Run) -> Verdict:
         if link.cut_busy and link.kind == "application" and link.closed is not None:
             clears[link.member].append(link.closed)
     for it in watch.commands:
-        if it.code in SHUTTING_DOWN and it.answered is not None:
+        if it.code in SHUTTING_DOWN and it.answered is not None and not _was_told(watch, it, it.answered):
             clears[it.link.member].append(it.answered)
     grace = GRACE + _late(run)
     stale = [(it, due) for it in watch.commands for due in clears[it.link.member][:64] if it.link.opened < due < it.at - grace]
     texts = [f"a {it.name} to member {it.link.member} at {it.at:.3f}, on a connection of before the error at {due:.3f}" for it, due in stale]
     return _of(name, texts, f"no connection of before {sum(map(len, clears.values()))} errors that clear a pool was used after them")
+
+
+def _was_told(watch: Watch, error: Command, answered: float) -> bool:
+    """A hello told the error's topology version, or a newer one, while the error was on its way: a client that read the hello first was not to heed the error."""
+    for it in watch.told:
+        if it.link.member == error.link.member and it.asked < answered and it.at < answered + ON_ITS_WAY and it.version and error.version:
+            if it.version[0] == error.version[0] and it.version[1] >= error.version[1]:
+                return True
+    return False
 
 
 def wrong_answers(run: Run) -> Verdict:

@@ -47,7 +47,7 @@ class Link:
 
 @dataclass
 class Command:
-    """A command of an application."""
+    """A command of an application. `version` is the topology version that the error tells by which it failed."""
 
     at: float
     link: Link
@@ -58,6 +58,7 @@ class Command:
     outcome: Outcome = Outcome.RUNNING
     answered: float | None = None
     code: int | None = None
+    version: tuple[str, int] | None = None
     executed: bool = False
     again: bool = False
     branch: bool = False
@@ -69,13 +70,15 @@ class Command:
 
 @dataclass(frozen=True)
 class Told:
-    """A hello told a client whether a member is writable, and by which election."""
+    """A hello told a client whether a member is writable, and by which election. `asked` is when it was asked for, or when the answer before it in a stream was sent."""
 
     at: float
     link: Link
     writable: bool
     election: int
     line: str = ""
+    asked: float = 0.0
+    version: tuple[str, int] | None = None
 
 
 @dataclass(frozen=True)
@@ -122,6 +125,12 @@ class Watch:
         count = self._counts.get((link.member, kind), 0) + 1
         self._counts[link.member, kind] = count
         link.kind, link.ordinal = kind, count
+
+
+def version_of(said: Document) -> tuple[str, int] | None:
+    """The process and the counter of the topology version that an answer has."""
+    version = said.get("topologyVersion")
+    return (str(version["processId"]), int(version["counter"])) if version else None
 
 
 _STATEMENTS = {"insert": "documents", "update": "updates", "delete": "deletes"}

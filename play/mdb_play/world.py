@@ -37,13 +37,19 @@ class World:
         self.configured = list(range(plan.count))
         self.named = list(plan.names or ())
         self.names: Names | None = None
-        self.shift, self.elections, self.connections, self.replies = 0, 0, 0, 0
+        # Changes of the configuration that no primary has made yet.
+        self.changes, self.connections, self.replies = 0, 0, 0
         self.budget, self._tls = Budget(LARGE_BYTES), tls
         self.spread: tuple[float, float] = (0.0, 0.0)
         self._began: float | None = None
         self._timers: list[asyncio.TimerHandle] = []
         self._tasks: set[asyncio.Task[None]] = set()
         self._measuring: asyncio.Task[None] | None = None
+
+    @property
+    def elections(self) -> int:
+        """How many elections there were."""
+        return self.fleet.elections
 
     def now(self) -> float:
         """Seconds since the client began; 0 before."""

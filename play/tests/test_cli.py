@@ -17,7 +17,7 @@ import pytest
 
 HERE = Path(__file__).parent
 PROGRAM = [sys.executable, "-m", "mdb_play"]
-ENVIRONMENT = {**os.environ, "PYTHONPATH": f"{HERE.parent}{os.pathsep}{HERE}"}
+ENVIRONMENT = {**os.environ, "PYTHONPATH": os.pathsep.join([str(HERE.parent), str(HERE), os.environ.get("PYTHONPATH", "")])}
 CLIENT = [sys.executable, str(HERE / "one_by_one.py"), "12"]
 PLAN = "set rs 3; at insert 5 before-reply reset; at insert 9 stepdown; at +50ms elect 1"
 

@@ -1,4 +1,4 @@
-"""The rule of who is primary, and the proved fleet beside it."""
+"""The rule of who is primary, and the proved program beside it."""
 
 from __future__ import annotations
 
@@ -48,10 +48,9 @@ def test_the_proved_fleet_agrees(seed: int) -> None:
 class EarlyElections(Fleet):
     """A wrong rule: the winner keeps its own set version."""
 
-    def elect(self, member: int) -> None:
-        kept = self.said(member).set_version
-        super().elect(member)
-        self._members[member] = Said(kept, self._members[member].election, self._members[member].counter)
+    def said(self, member: int) -> Said:
+        told = super().said(member)
+        return Said(1, told.election, told.counter) if told.election == 2 else told
 
 
 @needs_program

@@ -76,6 +76,18 @@ def test_a_new_process_has_another_id(played: Played, ports: list[int]) -> None:
         assert link.ask({"hello": 1})["topologyVersion"]["processId"] != before
 
 
+def test_a_configuration_without_a_primary_is_the_next_winners(played: Played, ports: list[int]) -> None:
+    with Raw(ports[0]) as old, Raw(ports[1]) as new:
+        played.do("stepdown")
+        played.do("hide 2")
+        waiting = old.ask({"hello": 1})
+        assert len(waiting["hosts"]) == 2 and waiting["setVersion"] == 1
+        played.do("elect 1")
+        assert new.ask({"hello": 1})["setVersion"] == 2
+        played.do("show 2")
+        assert new.ask({"hello": 1})["setVersion"] == 3 and old.ask({"hello": 1})["setVersion"] == 1
+
+
 # ---- words
 
 

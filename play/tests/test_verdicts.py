@@ -106,6 +106,20 @@ def test_stale_connections_are_used(run: Run) -> None:
     assert state(verdicts.stale_connections(run)) == FAILS
 
 
+def test_an_error_that_a_hello_overtook_clears_nothing(run: Run) -> None:
+    links, news = run.world.watch.links, run.world.watch.told
+    error = insert(run, 2.0, link(run), Outcome.FAILED)
+    error.code, error.version = 91, ("p", 3)
+    insert(run, 5.0, error.link)
+    news.append(Told(2.015, links[0], False, 0, asked=1.0, version=("p", 2)))  # an older state
+    news.append(Told(2.015, links[0], False, 0, asked=1.0, version=("q", 3)))  # of another process
+    news.append(Told(2.015, links[0], False, 0, asked=2.012, version=("p", 3)))  # asked for when the error had come
+    news.append(Told(2.015, links[1], False, 0, asked=1.0, version=("p", 3)))  # another member's
+    assert state(verdicts.stale_connections(run)) == FAILS
+    news.append(Told(2.015, links[0], False, 0, asked=1.0, version=("p", 3)))
+    assert state(verdicts.stale_connections(run)) == OK
+
+
 def test_wrong_answers_are_taken(run: Run) -> None:
     on = link(run)
     assert state(verdicts.wrong_answers(run)) == UNJUDGED

@@ -10,14 +10,15 @@
 
 from .driver import Driver
 from .errors import BadRecords, Closed, Malformed, MdbError, NoEntry, NoMemory, NoRoom, Opened
+from .fleet import Fleet, Member
 from .srv import accepted_hosts, rescan_seconds, txt_options
 from .values import (
     Action, Awaited, Check, Connection, End, Event, Fact, FactKind, Kind, Next, Reply, Server, ServerKind, Text, Topology, TopologyKind, Use, Why,
 )
 
 __all__ = [
-    "Action", "Awaited", "BadRecords", "Check", "Closed", "Connection", "Driver", "End", "Event", "Fact", "FactKind", "Kind", "Malformed", "MdbError", "Next",
-    "NoEntry", "NoMemory", "NoRoom", "Opened", "Reply", "Server", "ServerKind", "Text", "Topology", "TopologyKind", "Use", "Why", "accepted_hosts",
+    "Action", "Awaited", "BadRecords", "Check", "Closed", "Connection", "Driver", "End", "Event", "Fact", "FactKind", "Fleet", "Kind", "Malformed", "MdbError", "Member",
+    "Next", "NoEntry", "NoMemory", "NoRoom", "Opened", "Reply", "Server", "ServerKind", "Text", "Topology", "TopologyKind", "Use", "Why", "accepted_hosts",
     "rescan_seconds", "txt_options",
 ]
 __version__ = "0.3.0"

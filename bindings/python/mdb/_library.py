@@ -64,9 +64,14 @@ class CheckNumbers(Structure):
     ]
 
 
+class MemberNumbers(Structure):
+    _fields_ = [("election", c_uint64), ("set_version", c_uint32), ("counter", c_uint32), ("primary", c_uint32), ("unused", c_uint32)]
+
+
 _SLOT, _AT, _REPLY, _SIZE = POINTER(Slot), POINTER(At), POINTER(ReplyNumbers), POINTER(c_size_t)
 # A text that is read is a bytes object, which ctypes passes as a pointer to its first byte, and never as NULL.
 _IN, _OUT = [ctypes.c_char_p, c_size_t], [c_void_p, c_size_t, _SIZE]
+_MEMBERS = [POINTER(MemberNumbers), c_size_t]
 
 _CALLS = {
     "mdb_open_line": [_SLOT, c_uint32, *_IN],
@@ -111,6 +116,11 @@ _CALLS = {
     "mdb_check_next": [_SLOT, *_IN, *_IN, POINTER(c_uint32)],
     "mdb_srv_hosts": [*_IN, *_IN, c_uint32, *_OUT],
     "mdb_srv_txt": [*_IN, c_uint32, *_IN, *_OUT],
+    "mdb_fleet_begin": [*_MEMBERS, POINTER(c_uint64)],
+    "mdb_fleet_elect": [*_MEMBERS, POINTER(c_uint64), c_uint32],
+    "mdb_fleet_step_down": [*_MEMBERS, c_uint32, POINTER(c_uint32)],
+    "mdb_fleet_reconfigure": [*_MEMBERS, c_uint32, POINTER(c_uint32)],
+    "mdb_fleet_reply": [*_MEMBERS, c_uint32, *_OUT],
     "mdb_last_moment": [_SLOT, POINTER(c_uint64)],
     "mdb_published": [_SLOT, POINTER(c_uint64)],
     "mdb_open_pool": [_SLOT, *_IN, POINTER(c_uint32)],

@@ -10,3 +10,4 @@ mod replies;
 pub use fleet::Fleet;
 pub use link::{FleetLink, greet};
 pub use member::{Member, Sent, member_address};
+pub use replies::reply_of;

@@ -27,8 +27,8 @@ impl Member {
         self.election.is_some()
     }
 
-    // The member once it has won the election.
-    pub(crate) fn won(self, election: u64, set_version: u32) -> Member
+    /// The member once it has won the election. `counter` is below 2^31 - 1.
+    pub fn won(self, election: u64, set_version: u32) -> Member
         requires { self.counter < 2 ^ 31 - 1 }
         ensures { result ≡ winner election set_version self }
     {
@@ -39,7 +39,8 @@ impl Member {
         }
     }
 
-    pub(crate) fn stepped_down(self) -> Member
+    /// The member once it is a secondary. `counter` is below 2^31 - 1.
+    pub fn stepped_down(self) -> Member
         requires { self.counter < 2 ^ 31 - 1 }
         ensures { result ≡ stepped_down self }
     {
@@ -50,7 +51,8 @@ impl Member {
         }
     }
 
-    pub(crate) fn reconfigured(self) -> Member
+    /// The member with a set version that is greater by one. Both its numbers are below 2^31 - 1.
+    pub fn reconfigured(self) -> Member
         requires counter { self.counter < 2 ^ 31 - 1 }
         requires set_version { self.set_version < 2 ^ 31 - 1 }
         ensures { result ≡ reconfigured self }
