@@ -1,0 +1,5 @@
+pub mod PoolActs
+pub mod PoolLogs
+pub mod Lawful
+pub mod Sessions
+pub mod Holding
