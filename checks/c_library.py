@@ -8,8 +8,9 @@ crates/mdb_auditor/out/mdb_auditor; none is built here. In order:
 
   header     include/mdb.h is C11 and C++ with no warning; the archive defines each function that it declares, and no other global name, and wants no
              function but those of the heap and of copying
-  clients    checks/c/lines.c and calls.c, plain, under valgrind (no error, no leak) and with the address and undefined-behaviour sanitizers; the
+  clients    checks/c/lines.c, calls.c, documents.c, fleets.c and asked.c, plain, under valgrind (no error, no leak) and with the address and undefined-behaviour sanitizers; the
              examples of bindings/examples
+  pools      every call of a pool that stands alone, with each allocation refused in turn (checks/c/pools.c), the same three ways
   threads    checks/c/threads.c, plain, under helgrind and with ThreadSanitizer
   memory     each allocation of N random scripts (6) is refused in turn (checks/c/refusing.c), and once so under valgrind
   program    N random scripts give the log that PROGRAM writes (left out where it is not built)
@@ -42,6 +43,17 @@ HEAP = os.path.join(TOP, 'bindings', 'heap.c')
 WANTED = {'rattle_alloc', 'rattle_realloc', 'rattle_dealloc', 'memcpy', 'memmove', 'memset', 'memcmp', 'bcmp'}
 EXAMPLES = os.path.join(TOP, 'bindings', 'examples')
 OPERATIONS = '200 operations\n'
+POOL = '''ready: ready 0, done
+request: check-out started 0, connection created 1, done
+established: connection ready 1, checked out 1, done
+collect: done
+clear: cleared 0, done
+return: checked in 1, connection closed 1, done
+request: check-out started 0, check-out failed 0, done
+maintain: done
+close: closed 0, done
+'''
+RENEWED = '100 requests, 1 renewal\n'
 ENTRY = 'return 4 1 ok | Done | Pool 0 ConnectionCheckedIn a:27017 1\n'
 FLAGS = ['-std=gnu11', '-Wall', '-Wextra', '-Werror', '-O1', '-g', '-fno-omit-frame-pointer']
 SANITIZERS = ['-fsanitize=address,undefined', '-fno-sanitize-recover=all']
@@ -93,16 +105,21 @@ class Checks:
         self.tell('symbols', defined == declared and missing <= WANTED, '%d calls' % len(declared) if defined == declared else str(sorted(defined ^ declared)) + str(missing - WANTED))
 
     def clients(self):
-        for source, many, few in (('lines', '100000', '200'), ('calls', '20000', '300')):
+        for source, many, few in (('lines', '100000', '200'), ('calls', '20000', '300'), ('documents', '2000', '20'), ('fleets', '', ''), ('asked', '20000', '100')):
             self.ran(source, self.built(source), [many])
             self.ran(source + ' under valgrind', self.built(source), [few], VALGRIND)
             self.ran(source + ' with sanitizers', self.built(source, SANITIZERS), [few])
 
-        for name, wanted in (('round', ENTRY), ('client', OPERATIONS)):
+        for name, wanted in (('round', ENTRY), ('client', OPERATIONS), ('pool', POOL), ('renew', RENEWED)):
             example = os.path.join(self.folder, name)
             well, told = run(['gcc', '-std=c11', '-Wall', '-Wextra', '-Wpedantic', '-Werror', '-I' + INCLUDE, os.path.join(EXAMPLES, name + '.c'), self.given.library, HEAP, '-lpthread', '-o', example])
             well, told = run([example], timeout=60) if well else (well, told)
             self.tell('example ' + name, well and told == wanted, told)
+
+    def pools(self):
+        self.ran('pools', self.built('pools', heap=False))
+        self.ran('pools under valgrind', self.built('pools', heap=False), ['20'], VALGRIND)
+        self.ran('pools with sanitizers', self.built('pools', SANITIZERS, heap=False))
 
     def threads(self):
         self.ran('threads', self.built('threads'), ['2000'])
@@ -210,7 +227,7 @@ def main():
     folder = given.folder or tempfile.mkdtemp(prefix='mdb-c-')
     os.makedirs(folder, exist_ok=True)
     checks = Checks(given, folder)
-    for name in ('header', 'clients', 'threads', 'memory', 'program', 'auditor', 'fuzz'):
+    for name in ('header', 'clients', 'pools', 'threads', 'memory', 'program', 'auditor', 'fuzz'):
         if given.only in ('', name):
             getattr(checks, name)()
     print('all is well' if not checks.failed else '%d failed: %s' % (checks.failed, folder))

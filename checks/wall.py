@@ -24,7 +24,7 @@ def text_of(*path):
 def fields():
     """What names a field of what a pool keeps."""
     names = re.findall(r"(?m)^  pub (\w+) :", text_of("Kept", "Record.antt"))
-    return re.compile(rf"\.kept\.(?:{'|'.join(names)})\b")
+    return re.compile(rf"(?<!declared)\.kept\.(?:{'|'.join(names)})\b")
 
 
 def seals():

@@ -14,13 +14,16 @@
  *   get a connection         mdb_request_told, mdb_collect_told until MDB_POOLED or MDB_ENDED, mdb_give_up; mdb_return_told; mdb_error where it broke
  *   establish connections    mdb_claim, mdb_job_address; mdb_established_told or mdb_failed; mdb_warm for minPoolSize
  *   let time enter           mdb_expire and mdb_maintain of each server, every 10 ms or so
- *   check servers            mdb_open_pool, mdb_check_get, mdb_beat; mdb_check_next, mdb_beaten; mdb_rtt; mdb_hello for a hello of one's own
- *   check at once            mdb_want, mdb_unwant; MDB_FACT_CHECK_NOW and MDB_FACT_CANCEL
+ *   check servers            mdb_open_pool, mdb_check_get, mdb_beat; mdb_check_next, mdb_beaten or mdb_beaten_bson; mdb_rtt; mdb_hello, mdb_hello_bson for a hello of one's own
+ *   check at once            mdb_want, mdb_unwant, mdb_watchers; MDB_FACT_CHECK_NOW and MDB_FACT_CANCEL
  *   wake who waits, publish  mdb_facts after each step, or the calls that end in _told: MDB_FACT_GRANTED, MDB_FACT_ENDED, events by kind
- *   look at servers          mdb_topology_get, mdb_server_get, mdb_server_at, mdb_server_number, and their texts
+ *   play a replica set       mdb_fleet_begin, mdb_fleet_elect, mdb_fleet_step_down, mdb_fleet_reconfigure, mdb_fleet_reply
+ *   look at servers          mdb_topology_get, mdb_server_get, mdb_server_at, mdb_server_number, and their texts; mdb_driver_pool_get
  *   pin                      mdb_pin, mdb_replicate, mdb_take, mdb_unpin
+ *   a pool alone             mdb_pool_open, and the calls that begin with mdb_pool_
  *   follow DNS               mdb_srv_hosts, mdb_srv_txt, mdb_srv_rescan, mdb_hosts
  *   keep the log             mdb_entry_text after each step
+ *   go on past 2^32 parties  bindings/examples/renew.c: a second driver with what the first knows of its servers
  *
  * Under the lock of a slot: a step with the facts that are read of it; mdb_check_get with mdb_beat, and mdb_check_next with mdb_beaten; mdb_last_moment with
  * the step whose moment it bounds. Outside of it: sockets, and waiting.
@@ -36,7 +39,7 @@
  *   default port is 27017. Bytes beyond printable ASCII (32 to 126) are MDB_MALFORMED.
  *
  * Errors. Each call but mdb_close, mdb_abi and mdb_srv_rescan answers a status. At any status but MDB_OK, and MDB_BAD_RECORDS with its text, no step was
- *   done, no parameter was written but *needed, and the call may be made again. A refusal is no error: the status is MDB_OK, the reply MDB_REFUSED with its reason, nothing changed but the log, which
+ *   done, no parameter was written but *needed and, at MDB_BAD_DOCUMENT, what is bad, and the call may be made again. A refusal is no error: the status is MDB_OK, the reply MDB_REFUSED with its reason, nothing changed but the log, which
  *   has an entry with no fact.
  *
  * Ownership. A slot is its user's memory, and what it leads to the library's until mdb_close. The library keeps no pointer that it was given, and
@@ -96,7 +99,9 @@ enum {
     MDB_CLOSED = 4,     /* the slot holds no driver */
     MDB_OPENED = 5,     /* the slot holds one already */
     MDB_NO_ENTRY = 6,   /* no such fact, pool, server or text */
-    MDB_BAD_RECORDS = 7 /* of the calls for SRV and TXT records: the records break a rule, which the text names */
+    MDB_BAD_RECORDS = 7, /* of the calls for SRV and TXT records: the records break a rule, which the text names */
+    MDB_BAD_DOCUMENT = 8, /* of the calls that take a document: what is bad stands in `bad` */
+    MDB_UNSPELLED = 9   /* of mdb_entry_text: no line can spell what the last step told of */
 };
 
 /* ---- slots */
@@ -174,7 +179,8 @@ mdb_status mdb_line(mdb_slot *slot, uint32_t seat, const uint8_t *line, size_t l
 
 /* Writes the text of the last entry to the beginning of `out`: `LINE | REPLY | FACT ..` with its newline, as a script's log has it. The driver keeps
  * the last entry until the next step that is done, so a buffer that is too small, and want of memory, lose nothing: ask again. *needed is the length of
- * the text, and 0 at MDB_NO_MEMORY and MDB_CLOSED. At MDB_NO_ROOM nothing is written. The texts of all entries of a driver, one behind the other, are
+ * the text, and 0 at MDB_NO_MEMORY, MDB_UNSPELLED and MDB_CLOSED. At MDB_NO_ROOM nothing is written. MDB_UNSPELLED where the last step was that of a
+ * document with what no line can spell, such as a tag with a space; all other calls tell of such a step as of any, and no tool reads a log without it. The texts of all entries of a driver, one behind the other, are
  * its log. */
 mdb_status mdb_entry_text(mdb_slot *slot, uint8_t *out, size_t out_len, size_t *needed);
 
@@ -270,6 +276,44 @@ mdb_status mdb_hello(mdb_slot *slot, const mdb_at *at, const uint8_t *monitor, s
  * `err ERROR` or `cancelled ERROR`; of a reply behind which the server sends more unasked, ` more` is its last field. What the monitor does next tells
  * mdb_check_next, before it. */
 mdb_status mdb_beaten(mdb_slot *slot, const mdb_at *at, const uint8_t *monitor, size_t monitor_len, const uint8_t *outcome, size_t outcome_len, mdb_reply *reply);
+
+/* The same with the reply as the server sent it, a document in BSON 1.1 of at most 16,793,600 bytes, and 100 documents within one another. So it may have
+ * tags and names that no line can spell. Of the first bad field, or of the first bad byte, `answered->bad` tells at MDB_BAD_DOCUMENT; the reply, at MDB_OK.
+ * Nothing else is written. Values of types that no field of a hello has (double, binary, null, ..) are passed over: such a field is absent. `address` is
+ * the server's, as for mdb_beat. */
+typedef struct mdb_came {
+    uint64_t moment; /* milliseconds */
+    uint64_t nanos;  /* the round trip of the hello, or how long the check took */
+    uint32_t seat;
+    uint32_t pool;   /* that the hello or the check was begun for */
+    uint32_t more;   /* of a check: not 0 where the server sends more replies unasked (moreToCome) */
+} mdb_came;
+
+/* What is bad in a document. */
+enum {
+    MDB_DOCUMENT_SIZE = 1,     /* more bytes than a document may have */
+    MDB_DOCUMENT_SHORT = 2,    /* the bytes end within a value */
+    MDB_DOCUMENT_LENGTH = 3,   /* a length counts too little, or more bytes than there are */
+    MDB_DOCUMENT_ZERO = 4,     /* no zero byte where a name, a text or a document ends */
+    MDB_DOCUMENT_UTF8 = 5,     /* a name or a text is not UTF-8 */
+    MDB_DOCUMENT_BOOL = 6,     /* a truth value is neither 0 nor 1 */
+    MDB_DOCUMENT_TYPE = 7,     /* there is no such type */
+    MDB_DOCUMENT_DEPTH = 8,    /* too many documents within one another */
+    MDB_DOCUMENT_PAST = 9,     /* an element passes the end of its document */
+    MDB_DOCUMENT_TRAILING = 10, /* bytes stand behind the document */
+    MDB_DOCUMENT_FIELD = 11    /* a field has another type, or is absent and has to be there */
+};
+typedef struct mdb_document_fault {
+    uint64_t place;  /* the number of the bad byte, from 0; of MDB_DOCUMENT_FIELD 0 */
+    uint32_t kind;   /* MDB_DOCUMENT_SIZE .. */
+    char field[36];  /* of MDB_DOCUMENT_FIELD its name, with zeros behind it */
+} mdb_document_fault;
+typedef struct mdb_answered {
+    mdb_reply reply;
+    mdb_document_fault bad;
+} mdb_answered;
+mdb_status mdb_hello_bson(mdb_slot *slot, const mdb_came *came, const uint8_t *address, size_t address_len, const uint8_t *document, size_t document_len, mdb_answered *answered);
+mdb_status mdb_beaten_bson(mdb_slot *slot, const mdb_came *came, const uint8_t *address, size_t address_len, const uint8_t *document, size_t document_len, mdb_answered *answered);
 
 /* A round trip of so many nanoseconds was measured beside the checks of a monitor, which is as for a hello (SDAM monitoring, "Measuring RTT"):
  * MDB_COUNT with the average. */
@@ -488,6 +532,94 @@ mdb_status mdb_srv_txt(const uint8_t *name, size_t name_len, uint32_t count, con
  * 0 where it failed; `ttl` is the least time to live of its records and `heartbeat` the time between two checks, in seconds. */
 uint64_t mdb_srv_rescan(uint32_t accepted, uint32_t ttl, uint64_t heartbeat);
 
+/* ---- pools that stand alone, for drivers that watch their servers by themselves. Such a pool is a state machine as a driver is, in a slot of its own: it
+ * knows no server, and its user alone readies, clears and closes it (CMAP). What stands above of slots, threads, fork, memory, moments, parties and refusals
+ * holds of it. It has no lines and no texts: steps, replies and facts are numbers. bindings/examples/pool.c is a whole program over one: copy it. */
+
+enum { MDB_POOL_IS_NEW = 1, MDB_POOL_IS_READY, MDB_POOL_IS_PAUSED, MDB_POOL_IS_CLOSED };
+
+/* Memory for one pool, which begins as MDB_POOL_SLOT_INIT. Its members are the library's. */
+typedef struct mdb_pool_slot {
+    uint64_t state;
+    void *at;
+} mdb_pool_slot;
+
+#define MDB_POOL_SLOT_INIT { 0, 0 }
+
+/* CMAP, "Connection Pool Options". MDB_MALFORMED where a size or the flag is none of those named. */
+typedef struct mdb_pool_options {
+    uint64_t max_idle;       /* after how many milliseconds an available connection is closed; 0 for no limit */
+    uint64_t max_wait;       /* for how many milliseconds a caller may wait; 0 for no limit */
+    uint32_t number;         /* the number that replies and facts have of the pool */
+    uint32_t max_size;       /* how many connections callers make at most, 1 to 65535 */
+    uint32_t min_size;       /* how many the pool keeps at least, 0 to 65535: mdb_pool_maintain creates them, as many at a time as may be pending */
+    uint32_t max_connecting; /* how many are pending at a time, 1 to 65535 */
+    uint32_t load_balanced;  /* 1 where the server is a load balancer, 0 else */
+} mdb_pool_options;
+
+#define MDB_POOL_OPTIONS_INIT { 0, 0, 0, 10, 0, 2, 0 }
+
+/* Opens a pool in a closed slot: a load-balanced one is ready, any other new. It tells no fact. MDB_MALFORMED, MDB_OPENED. */
+mdb_status mdb_pool_open(mdb_pool_slot *slot, const mdb_pool_options *options);
+
+/* Frees the pool, if there is one. The slot is closed then, and may be opened again. */
+void mdb_pool_free(mdb_pool_slot *slot);
+
+/* The steps of callers, as those of a driver of the same names. */
+mdb_status mdb_pool_request(mdb_pool_slot *slot, const mdb_at *at, uint32_t party, mdb_told *told);
+mdb_status mdb_pool_warm(mdb_pool_slot *slot, const mdb_at *at, uint32_t party, mdb_told *told);
+mdb_status mdb_pool_collect(mdb_pool_slot *slot, const mdb_at *at, uint32_t party, mdb_told *told);
+mdb_status mdb_pool_give_up(mdb_pool_slot *slot, const mdb_at *at, uint32_t party, mdb_told *told);
+mdb_status mdb_pool_return(mdb_pool_slot *slot, const mdb_at *at, uint32_t party, uint32_t used, mdb_told *told);
+
+/* The steps of workers, who connect to where their driver knows. `id` is the connection that a reply or a fact told, `service` the one that a load balancer's
+ * server named, in 24 hex digits, or no bytes; MDB_MALFORMED where it is neither. What else establishing found out or failed of stays with the driver. */
+mdb_status mdb_pool_claim(mdb_pool_slot *slot, const mdb_at *at, mdb_told *told);
+mdb_status mdb_pool_established(mdb_pool_slot *slot, const mdb_at *at, uint32_t id, const uint8_t *service, size_t service_len, mdb_told *told);
+mdb_status mdb_pool_failed(mdb_pool_slot *slot, const mdb_at *at, uint32_t id, const uint8_t *service, size_t service_len, mdb_told *told);
+
+/* Pins, of a connection by its id. */
+mdb_status mdb_pool_pin(mdb_pool_slot *slot, const mdb_at *at, uint32_t party, mdb_told *told);
+mdb_status mdb_pool_replicate(mdb_pool_slot *slot, const mdb_at *at, uint32_t id, mdb_told *told);
+mdb_status mdb_pool_take(mdb_pool_slot *slot, const mdb_at *at, uint32_t party, uint32_t id, mdb_told *told);
+mdb_status mdb_pool_unpin(mdb_pool_slot *slot, const mdb_at *at, uint32_t id, mdb_told *told);
+
+/* The pool may be used from now on (CMAP, "Marking a Connection Pool as Ready"). A closed one stays closed. */
+mdb_status mdb_pool_ready(mdb_pool_slot *slot, const mdb_at *at, mdb_told *told);
+
+/* All connections become stale, and the pool is paused; under load balancing those of a service alone, and nothing pauses (CMAP, "Clearing a
+ * Connection Pool"). MDB_MALFORMED where the cause or the service is none. MDB_WHY_WRONG_MODE where a service is named and the pool is not load balanced, or
+ * none is and it is. */
+enum {
+    MDB_CAUSE_NETWORK = 0,
+    MDB_CAUSE_NETWORK_TIMEOUT, /* the connections in use are interrupted */
+    MDB_CAUSE_OTHER
+};
+mdb_status mdb_pool_clear(mdb_pool_slot *slot, const mdb_at *at, uint32_t cause, const uint8_t *service, size_t service_len, mdb_told *told);
+
+/* The timers: stale and idle connections are closed; callers that waited for max_wait end. */
+mdb_status mdb_pool_maintain(mdb_pool_slot *slot, const mdb_at *at, mdb_told *told);
+mdb_status mdb_pool_expire(mdb_pool_slot *slot, const mdb_at *at, mdb_told *told);
+
+/* The pool is closed for good (CMAP, "Closing a Connection Pool"): what waits ends, and what is in use is closed as it comes back. */
+mdb_status mdb_pool_close(mdb_pool_slot *slot, const mdb_at *at, mdb_told *told);
+
+/* All facts of the last step, as mdb_facts. */
+mdb_status mdb_pool_facts(mdb_pool_slot *slot, mdb_fact *out, size_t room, size_t *count);
+
+
+/* What the pool has. No step. */
+typedef struct mdb_pool_state {
+    uint64_t generation; /* how often it was cleared as a whole */
+    uint64_t available;  /* how many connections nobody has */
+    uint32_t number;
+    uint32_t state;      /* MDB_POOL_IS_NEW .. */
+} mdb_pool_state;
+mdb_status mdb_pool_get(mdb_pool_slot *slot, mdb_pool_state *state);
+
+/* How often the pool was cleared for a service, or as a whole for no bytes. MDB_MALFORMED. No step. */
+mdb_status mdb_pool_generation(mdb_pool_slot *slot, const uint8_t *service, size_t service_len, uint64_t *generation);
+
 /* ---- what is known of the log and the pools; no steps */
 
 /* The moment of the last step that was accepted. */
@@ -498,6 +630,49 @@ mdb_status mdb_published(mdb_slot *slot, uint64_t *count);
 
 /* The number of the pool that is open at the address. MDB_NO_ENTRY, MDB_MALFORMED. */
 mdb_status mdb_open_pool(mdb_slot *slot, const uint8_t *address, size_t address_len, uint32_t *pool);
+
+/* What a pool of the driver has. */
+typedef struct mdb_driver_pool {
+    uint64_t generation; /* how often it was cleared as a whole (CMAP, "Generation") */
+    uint64_t available;  /* how many connections nobody has */
+    uint32_t state;      /* MDB_POOL_IS_NEW .. */
+    uint32_t has_job;    /* 1 where a pending connection waits for mdb_claim */
+} mdb_driver_pool;
+
+
+/* The pool of this number. MDB_NO_ENTRY where none was opened, or it was closed and nothing of it lives: no connection, and no request that is open. */
+mdb_status mdb_driver_pool_get(mdb_slot *slot, uint32_t pool, mdb_driver_pool *told);
+
+/* How many watchers want the servers checked at once. Where it tells 0 under the lock of an mdb_want, that one is the first. */
+mdb_status mdb_watchers(mdb_slot *slot, uint64_t *count);
+
+/* ---- a made-up replica set, for tests of failover; no driver and no steps. Its members are an array that the caller keeps, and so is the number of its
+ * elections: a copy of both is the set as it was. An election is decided by the caller; no majority is asked, and an old primary goes on believing that it is
+ * one until it steps down. A reply belongs to whoever asked for it, and may be delivered late, twice or never. MDB_MALFORMED where the members are none or
+ * more than 50, or a counter or a set version of one is at 2^31 - 1 or above, or at an election *elections is 2^64 - 1; MDB_NO_ENTRY where there is no such
+ * member. Nothing is changed then. */
+
+typedef struct mdb_member {
+    uint64_t election;    /* by which it believes to be the primary, counted from 1 */
+    uint32_t set_version;
+    uint32_t counter;     /* how often it changed, as topologyVersion has it */
+    uint32_t primary;     /* 0 where it believes to be a secondary */
+    uint32_t unused;
+} mdb_member;
+
+/* Makes all of them secondaries with set version 1; no election was held. */
+mdb_status mdb_fleet_begin(mdb_member *members, size_t count, uint64_t *elections);
+
+/* The next election is the member's: it becomes primary, with the greatest set version of all. The others stay as they are. */
+mdb_status mdb_fleet_elect(mdb_member *members, size_t count, uint64_t *elections, uint32_t member);
+
+/* The member becomes a secondary; its set version rises by one. *changed is 0 where it is a secondary, and then nothing changes; else 1. */
+mdb_status mdb_fleet_step_down(mdb_member *members, size_t count, uint32_t member, uint32_t *changed);
+mdb_status mdb_fleet_reconfigure(mdb_member *members, size_t count, uint32_t member, uint32_t *changed);
+
+/* What the member answers to a hello now, as the fields of a line have it, each behind a space: mdb_hello and mdb_beaten take it behind `ok rtt=NS` and
+ * `NS ok`. The members are m0:27017, m1:27017 and so on, and the set is rs. *needed is its length, and 0 at all but MDB_OK and MDB_NO_ROOM. */
+mdb_status mdb_fleet_reply(const mdb_member *members, size_t count, uint32_t member, uint8_t *out, size_t out_len, size_t *needed);
 
 #ifdef __cplusplus
 }

@@ -55,6 +55,17 @@ static void records(void) {
     CHECK((status == MDB_OK && needed == 33) || (status == MDB_NO_MEMORY && needed == 0));
 }
 
+// A reply of a made-up replica set.
+static void made_up(void) {
+    mdb_member member;
+    uint64_t elections;
+    uint8_t out[512];
+    size_t needed = 77;
+    CHECK(mdb_fleet_begin(&member, 1, &elections) == MDB_OK);
+    mdb_status status = mdb_fleet_reply(&member, 1, 0, out, sizeof out, &needed);
+    CHECK((status == MDB_OK && needed > 100) || (status == MDB_NO_MEMORY && needed == 0));
+}
+
 // One step, made again once where it had no memory: the reply is not written then, and the last entry still has its text.
 static bool step(const char *line, size_t n, bool opens, mdb_reply *reply, size_t *told, char *log) {
     static mdb_told kept, with;
@@ -108,7 +119,12 @@ static bool step(const char *line, size_t n, bool opens, mdb_reply *reply, size_
     CHECK(status == MDB_OK || status == MDB_NO_ENTRY || status == MDB_NO_MEMORY);
     status = mdb_check_next(&slot, (const uint8_t *)"a:27017 0", 9, (const uint8_t *)"7 err network msg=x", 19, &next);
     CHECK(status == MDB_OK || status == MDB_NO_ENTRY || status == MDB_NO_MEMORY);
+    mdb_driver_pool pool;
+    uint64_t watchers;
+    status = mdb_driver_pool_get(&slot, 0, &pool);
+    CHECK((status == MDB_OK || status == MDB_NO_ENTRY) && mdb_watchers(&slot, &watchers) == MDB_OK); // no memory is asked for
     records();
+    made_up();
     return true;
 }
 

@@ -1,3 +1,6 @@
 pub mod LineLemmas
 mod Zips
 mod Names
+pub mod PoolTells
+pub mod StateNames
+pub mod Nameless

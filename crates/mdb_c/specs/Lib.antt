@@ -10,3 +10,7 @@ pub mod Giving
 pub mod Hosts
 pub mod Txt
 pub mod Rescan
+pub mod Documents
+pub mod PoolOpening
+pub mod PoolSteps
+pub mod PoolStates

@@ -58,8 +58,8 @@ fn server_of(number: i64) -> Option<i64>
     if 0 <= number { Some(number) } else { None }
 }
 
-// The service of 24 hex digits, and none for no bytes. `None` where the bytes are neither.
-fn service_in(bytes: &[u8]) -> Option<Option<ObjectId>>
+/// The service of 24 hex digits, and none for no bytes. `None` where the bytes are neither.
+pub fn service_in(bytes: &[u8]) -> Option<Option<ObjectId>>
     ensures { result ≡ service_of bytes.now }
 {
     if bytes.is_empty() {

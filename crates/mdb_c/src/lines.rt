@@ -1,13 +1,17 @@
 //! The calls that take a line and tell an entry's text.
 
-ghost use Rattle.std.specs.Prelude.{◌≡◌, ◌≢◌, ◌++◌, ◌∷◌, ◌<◌, [], ℕ, List, None, Some, length, drop};
+ghost use Rattle.std.specs.Prelude.{◌≡◌, ◌≢◌, ◌++◌, ◌∷◌, ◌<◌, [], ℕ, List, None, Some, length, drop, true, false};
 ghost use Rattle.mdb_log.specs.declared.log.Entry.{Entry};
 ghost use Rattle.mdb_log.specs.declared.step.Step.{Step};
 ghost use Rattle.mdb_lines.specs.Script.{Spells};
 ghost use Rattle.mdb_driver_rules.specs.Lines.{entry_after};
+ghost use Rattle.mdb_session.specs.Readable.{IsLastReadable};
 ghost use Rattle.mdb_session.specs.Sessions.{IsLastText, IsStepped};
 
-use mdb_session::{CLOSED, MALFORMED, NO_MEMORY, NO_ROOM, OK, OPENED, ReplyNumbers, Slot, Status};
+use mdb_session::{
+    CLOSED, MALFORMED, NO_MEMORY, NO_ROOM, OK, OPENED, ReplyNumbers, Session, Slot, Status,
+    UNSPELLED,
+};
 use std::alloc::Global;
 
 /// The number of this interface, which changes where a call, a struct or a number of it does.
@@ -51,7 +55,34 @@ pub extern "C" fn mdb_line(
     slot.line(alloc, seat, line, reply)
 }
 
-/// Writes the text of the last entry to the beginning of `out`, and how long it is to `needed`.
+// The same of a session.
+fn entry_text(alloc: Global, session: &Session, out: &mut [u8], needed: &mut usize) -> Status
+    requires { needed.old ≡ 0 }
+    ensures ok { result ≡ OK → (text : List ℕ) × IsLastText session.now text × (needed.new ≡ length text) × (out.new ≡ text ++ drop (length text) out.old) }
+    ensures room { result ≡ NO_ROOM → (text : List ℕ) × IsLastText session.now text × (needed.new ≡ length text) × (length out.old < length text) }
+    ensures other { result ≢ OK → out.new ≡ out.old }
+    ensures readable { result ≡ OK → IsLastReadable session.now true }
+    ensures unspelled { result ≡ UNSPELLED → IsLastReadable session.now false }
+    ensures answers { result ≢ OK → result ≢ NO_MEMORY → result ≢ NO_ROOM → result ≡ UNSPELLED }
+    ensures needed { result ≢ OK → result ≢ NO_ROOM → needed.new ≡ 0 }
+{
+    match session.is_readable(alloc) {
+        Ok(true) => {}
+        Ok(false) => return UNSPELLED,
+        Err(_) => return NO_MEMORY,
+    }
+    let room = out.len();
+    match session.entry_text(alloc, out) {
+        Ok(length) => {
+            *needed = length;
+            if length <= room { OK } else { NO_ROOM }
+        }
+        Err(_) => NO_MEMORY,
+    }
+}
+
+/// Writes the text of the last entry to the beginning of `out`, and how long it is to `needed`. There is none where no line can spell the reply or
+/// the error that its step tells of.
 #[unsafe(no_mangle)]
 pub extern "C" fn mdb_entry_text(
     alloc: Global,
@@ -64,23 +95,18 @@ pub extern "C" fn mdb_entry_text(
     ensures other { result ≢ OK → out.new ≡ out.old }
     ensures same { slot.new.word.value ≡ slot.old.word.value }
     ensures closed { result ≡ CLOSED → slot.old.word.value ≡ None }
-    ensures answers { result ≢ OK → result ≢ NO_MEMORY → result ≢ NO_ROOM → result ≡ CLOSED }
+    ensures readable { result ≡ OK → (log : List Entry) × (slot.old.word.value ≡ Some log) × IsLastReadable log true }
+    ensures unspelled { result ≡ UNSPELLED → (log : List Entry) × (slot.old.word.value ≡ Some log) × IsLastReadable log false }
+    ensures answers { result ≢ OK → result ≢ NO_MEMORY → result ≢ NO_ROOM → result ≢ UNSPELLED → result ≡ CLOSED }
     ensures needed { result ≢ OK → result ≢ NO_ROOM → needed.new ≡ 0 }
 {
     *needed = 0;
     let Some(session) = slot.take(alloc) else {
         return CLOSED;
     };
-    let room = out.len();
-    let told = session.entry_text(alloc, out);
+    let status = entry_text(alloc, &session, out, needed);
     *slot = Slot::holding(session);
-    match told {
-        Ok(length) => {
-            *needed = length;
-            if length <= room { OK } else { NO_ROOM }
-        }
-        Err(_) => NO_MEMORY,
-    }
+    status
 }
 
 /// Frees the driver, if there is one, and closes the slot.

@@ -1,8 +1,11 @@
 pub mod Numbers
 pub mod Facts
+pub mod PoolFacts
+pub mod Pools
 pub mod Sessions
 pub mod Answers
 pub mod Holding
 pub mod Texts
 pub mod Ahead
 pub mod Told
+pub mod Readable

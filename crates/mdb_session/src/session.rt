@@ -1,6 +1,7 @@
 //! A driver that keeps the last entry of its log.
 
 ghost use Rattle.std.specs.Prelude.{◌≡◌, ◌++◌, ◌∷◌, ◌≤◌, ◌<◌, [], List, ℕ, IfOk, IfErr, OnErr, IsTrue, length, drop, false};
+ghost use Rattle.mdb_log.specs.Acts.{IsDriverAct};
 ghost use Rattle.mdb_log.specs.declared.step.Step.{Step};
 ghost use Rattle.mdb_lines.specs.Grammar.{is_step, is_open};
 ghost use Rattle.mdb_lines.specs.Script.{Spells};
@@ -83,10 +84,9 @@ impl Session {
         Ok(made?)
     }
 
-    /// Does a step that a line spells, and which opens nothing. The log gets its entry, of the seat. Where it fails nothing was done.
-    pub fn step(&mut self, alloc: Global, seat: u32, step: &Step) -> Result<Reply, OutOfMemory>
-        requires spelled { IsTrue (is_step step.now) }
-        requires later { is_open step.now.act ≡ false }
+    /// Does a step of a driver's callers, whether a line can spell it or not. The log gets its entry, of the seat. Where it fails nothing was done.
+    pub fn act(&mut self, alloc: Global, seat: u32, step: &Step) -> Result<Reply, OutOfMemory>
+        requires { IsDriverAct step.now.act }
         ensures ok { IfOk result (λ reply. (reply ≡ (answer_after self.old step.now).reply) × (self.new ≡ self.old ++ entry_after seat self.old step.now ∷ [])) }
         ensures err { OnErr result (self.new ≡ self.old) }
     {
@@ -96,6 +96,16 @@ impl Session {
         self.past = past;
         self.last = log;
         Ok(reply)
+    }
+
+    /// Does a step that a line spells, and which opens nothing. The log gets its entry, of the seat. Where it fails nothing was done.
+    pub fn step(&mut self, alloc: Global, seat: u32, step: &Step) -> Result<Reply, OutOfMemory>
+        requires spelled { IsTrue (is_step step.now) }
+        requires later { is_open step.now.act ≡ false }
+        ensures ok { IfOk result (λ reply. (reply ≡ (answer_after self.old step.now).reply) × (self.new ≡ self.old ++ entry_after seat self.old step.now ∷ [])) }
+        ensures err { OnErr result (self.new ≡ self.old) }
+    {
+        self.act(alloc, seat, step)
     }
 
     /// Does the step that a line spells, any line of a script but the first, given without its newline. The log gets its entry, of the seat.

@@ -32,6 +32,12 @@ pub const NO_ENTRY: Status = 6;
 /// The records of a lookup break a rule, which the text names.
 pub const BAD_RECORDS: Status = 7;
 
+/// The bytes are no document, or the document is not what is wanted, and nothing was done.
+pub const BAD_DOCUMENT: Status = 8;
+
+/// No line can spell what the last step told of, so that its entry has no text.
+pub const UNSPELLED: Status = 9;
+
 /// The status that tells of an error.
 pub fn status_of(why: LineError) -> Status
     ensures number { result ≡ status_number why }

@@ -120,6 +120,15 @@ pub struct mdb_check {
     pub asks: u32,
 }
 
+#[repr(C)]
+#[derive(Clone, Copy, Debug, Default, PartialEq, Eq)]
+pub struct mdb_driver_pool {
+    pub generation: u64,
+    pub available: u64,
+    pub state: u32,
+    pub has_job: u32,
+}
+
 extern "C" {
     pub fn mdb_abi() -> u32;
     pub fn mdb_close(slot: *mut mdb_slot);
@@ -212,4 +221,6 @@ extern "C" {
     pub fn mdb_last_moment(slot: *mut mdb_slot, moment: *mut u64) -> u32;
     pub fn mdb_published(slot: *mut mdb_slot, count: *mut u64) -> u32;
     pub fn mdb_open_pool(slot: *mut mdb_slot, address: *const u8, address_len: usize, pool: *mut u32) -> u32;
+    pub fn mdb_driver_pool_get(slot: *mut mdb_slot, pool: u32, told: *mut mdb_driver_pool) -> u32;
+    pub fn mdb_watchers(slot: *mut mdb_slot, count: *mut u64) -> u32;
 }
