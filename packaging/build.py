@@ -13,13 +13,14 @@ from __future__ import annotations
 import argparse
 import os
 import shutil
+import subprocess
 import tempfile
 import time
 from pathlib import Path
 
 import kit as kits
 from built import begin, end, file_of, made_of
-from plain import Stop, ends_well, run
+from plain import Stop, ends_well, last_line, run
 from shipped import BUILT, LIBRARY, PROGRAMS, TARGETS, TOP, Target
 
 # A clang that also keeps what it is given, as $ROOM says: the module, or the text of the assembler that was made of it, and each call's words.
@@ -112,7 +113,12 @@ class Builder:
         print(f"{name} for {target.cpu}: proved in {proved - begun:.0f} s, built in {time.monotonic() - proved:.0f} s, {to.stat().st_size} bytes", flush=True)
 
     def rattle(self, command: str, name: str, *words: object) -> str:
-        return run(self.kit / "bin" / "rattle", command, *words, cwd=self.crates.folder(name))
+        """What rattle says, of which the last line is the verdict: it may stand on either stream."""
+        said = [str(it) for it in (self.kit / "bin" / "rattle", command, *words)]
+        ran = subprocess.run(said, cwd=self.crates.folder(name), stdin=subprocess.DEVNULL, stdout=subprocess.PIPE, stderr=subprocess.STDOUT, text=True, errors="replace", check=False)
+        if ran.returncode:
+            raise Stop(f"rattle {command} of {name} ended with {ran.returncode}: {last_line(ran.stdout)}")
+        return ran.stdout
 
 
 @ends_well
