@@ -29,6 +29,10 @@ BLOWS = {
 }
 
 
+# One arena, and nothing that threads keep for themselves: what is in use is what was asked for.
+PLAIN = {'MALLOC_ARENA_MAX': '1', 'GLIBC_TUNABLES': 'glibc.malloc.tcache_count=0'}
+
+
 def memory(pid):
     """Kilobytes that are resident."""
     with open('/proc/%d/status' % pid) as file:
@@ -70,7 +74,8 @@ def main():
     folder, written = tempfile.TemporaryDirectory(), tempfile.TemporaryFile('w+')
     heap = os.path.join(folder.name, 'heap.so')
     subprocess.run(['cc', '-O1', '-shared', '-fPIC', os.path.join(HERE, 'heap.c'), '-o', heap, '-lpthread'], check=True)
-    live = subprocess.Popen(words, stdout=written, stderr=subprocess.STDOUT, env={**os.environ, 'LD_PRELOAD': heap, 'HEAP_FILE': os.path.join(folder.name, 'heap')})
+    env = {**os.environ, **PLAIN, 'LD_PRELOAD': heap, 'HEAP_FILE': os.path.join(folder.name, 'heap')}
+    live = subprocess.Popen(words, stdout=written, stderr=subprocess.STDOUT, env=env)
     began, told, took, late = time.monotonic(), 60.0, [], []
     while time.monotonic() < began + given.seconds and live.poll() is None:
         name = chance.choice(sorted(BLOWS))
