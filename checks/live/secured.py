@@ -15,7 +15,7 @@ import time
 
 sys.dont_write_bytecode = True
 from mended import Calls, Played, legal
-from run import TOP, Servers
+from run import HERE, TOP, Servers
 from scram import Keys, Login
 
 FAST = 'replicaSet=rs&heartbeatFrequencyMS=500&connectTimeoutMS=1500&serverSelectionTimeoutMS=1500'
@@ -267,6 +267,7 @@ def main():
     parser.add_argument('--python', default='/usr/bin/python3')
     parser.add_argument('names', nargs='*')
     given = parser.parse_args()
+    os.environ.setdefault('TSAN_OPTIONS', 'suppressions=' + os.path.join(HERE, 'openssl.supp'))
     failed = 0
     with tempfile.TemporaryDirectory() as folder:
         given.certificates = Certificates(folder)
