@@ -59,6 +59,16 @@ ptrdiff_t write(int32_t file, const void *from, size_t length) {
     return (ptrdiff_t)length;
 }
 
+/* The same by the name that glibc has for it. */
+ptrdiff_t __write(int32_t file, const void *from, size_t length) { return write(file, from, length); }
+
+/* glibc's leaves of <sys/platform/x86.h>: a program asks at its start whether it may run here. Its module has no instruction of x86-64, so it may. */
+const uint32_t *__x86_get_cpuid_feature_leaf(uint32_t leaf) {
+    static const uint32_t every[8] = {UINT32_MAX, UINT32_MAX, UINT32_MAX, UINT32_MAX, UINT32_MAX, UINT32_MAX, UINT32_MAX, UINT32_MAX};
+    (void)leaf;
+    return every;
+}
+
 /* As packaging/system.c has it; the first word is the program's name. */
 ptrdiff_t rattle_arg(size_t at, uint8_t *out, size_t room) {
     size_t begins = 0, ends = 0;
