@@ -75,6 +75,7 @@ SAID = {
     "bindings/python/mdb/__init__.py": r'__version__ = "(.+)"',
     "bindings/rust/mdb/Cargo.toml": r'(?m)^version = "(.+)"',
     "bindings/rust/mdb-sys/Cargo.toml": r'(?m)^version = "(.+)"',
+    "crates/mdb_commands/src/help.rt": r'"mdb (\S+), interface',
 }
 
 

@@ -64,14 +64,15 @@ def plain(of: Packed, words: str, room: Room) -> None:
 
 
 def programs(run_one: Callable[[str, bytes, int], bytes]) -> None:
-    """By what runs a command: each program's stdin gives its stdout and its status. One that has none says its version."""
+    """By what runs a command: each program's stdin, with its args, gives its stdout and its status. One that has none says its version."""
     for name in PROGRAMS:
         folder = TOP / "crates" / name
         if not (folder / "stdout").is_file():
             run_one(f"{name} --version", b"", 0)
             continue
         status = int((folder / "status").read_text()) if (folder / "status").is_file() else 0
-        same(run_one(name, (folder / "stdin").read_bytes(), status), (folder / "stdout").read_bytes(), name)
+        words = (folder / "args").read_text().split() if (folder / "args").is_file() else []
+        same(run_one(" ".join([name, *words]), (folder / "stdin").read_bytes(), status), (folder / "stdout").read_bytes(), name)
 
 
 def packed_programs(of: Packed, room: Room) -> None:

@@ -1,0 +1,5 @@
+use Rattle.mdb_commands.proofs.Numbers.{no-share}
+use Rattle.mdb_commands.proofs.reading.number_of_share.Goals as goal
+
+pub returns-in-Script : goal.returns-in-Script
+returns-in-Script c = no-share c.args.digits.now c.read_words.result c.read_words.ensures c.in-Script.is
