@@ -124,6 +124,7 @@ def jumps(checks):
     wanted = [at for at, line in enumerate(lines()) if ' | Raised ' in line or ' err ' in line.split(' | ')[0] or line.startswith('error ')]
     rows = lambda: checks.ask("[...document.querySelectorAll('#jumps .row .number')].map((it) => Number(it.textContent.slice(1)) - 1)")
     checks.equal('the list to jump by', sorted(set(rows())), wanted)
+    checks.equal('the texts of the list are whole', checks.ask("[...document.querySelectorAll('#jumps .row')].filter((it) => it.scrollHeight > it.clientHeight).length"), 0)
     checks.ask("document.querySelectorAll('#jumps .row')[0].click()")
     checks.equal('a jump', checks.timeline('selected()')['entry'], wanted[0])
     checks.ask("document.querySelector('#kinds input[value=\"error\"]').click()")

@@ -1,7 +1,8 @@
 // Long lists of entries to jump to: only the rows in view are in the page.
 import { element } from './element.js';
+import { evenTops, rowAt, wrappedTops } from './row_tops.js';
 
-const SHAPE = { row: 44, most: 230 }; // pixels: of a row, which has two lines of text, and of the list
+const SHAPE = { most: 230 }; // pixels of the list; rows have the height of their texts where no other is said
 const MORE = 4; // rows above and below those in view
 
 export class JumpList {
@@ -11,6 +12,7 @@ export class JumpList {
     this.go = go;
     this.items = [];
     this.active = -1;
+    this.tops = evenTops(0, 0);
     this.inner = element('div', { className: 'rows' });
     box.replaceChildren(this.inner);
     box.tabIndex = 0;
@@ -18,22 +20,37 @@ export class JumpList {
     box.setAttribute('aria-label', label);
     box.addEventListener('scroll', () => this.draw());
     box.addEventListener('keydown', (event) => this.key(event));
+    new ResizeObserver(() => this.resize()).observe(box);
   }
 
   show(items) {
     this.items = items;
     this.active = -1;
-    const { row, most } = this.shape;
-    this.inner.style.height = items.length * row + 'px';
     this.box.hidden = items.length === 0;
-    if (most < Infinity) this.box.style.height = Math.min(items.length * row + 2, most) + 'px';
+    this.place();
+    this.draw();
+  }
+
+  /** Gives each row its place. */
+  place() {
+    const { row, most } = this.shape;
+    const texts = () => this.items.map((it) => `${it.label} ${it.text}`);
+    this.width = this.box.clientWidth;
+    this.tops = row === undefined ? wrappedTops(texts(), this.width, getComputedStyle(this.inner).font) : evenTops(this.items.length, row);
+    const whole = this.tops[this.items.length];
+    this.inner.style.height = whole + 'px';
+    if (most < Infinity) this.box.style.height = Math.min(whole + 2, most) + 'px';
+  }
+
+  resize() {
+    if (this.box.clientWidth !== this.width && this.shape.row === undefined) this.place();
     this.draw();
   }
 
   draw() {
-    const { row } = this.shape;
-    const from = Math.max(0, Math.floor(this.box.scrollTop / row) - MORE);
-    const to = Math.min(this.items.length, Math.ceil((this.box.scrollTop + this.box.clientHeight) / row) + MORE);
+    const { scrollTop, clientHeight } = this.box;
+    const from = Math.max(0, rowAt(this.tops, scrollTop) - MORE);
+    const to = Math.min(this.items.length, rowAt(this.tops, scrollTop + clientHeight) + 1 + MORE);
     this.inner.replaceChildren();
     for (let at = from; at < to; at += 1) this.inner.append(this.row(at));
     if (this.active >= 0) this.box.setAttribute('aria-activedescendant', `${this.box.id}-${this.active}`);
@@ -48,7 +65,8 @@ export class JumpList {
     row.setAttribute('aria-selected', String(at === this.active));
     row.setAttribute('aria-posinset', String(at + 1));
     row.setAttribute('aria-setsize', String(this.items.length));
-    row.style.top = at * this.shape.row + 'px';
+    row.style.top = this.tops[at] + 'px';
+    row.style.height = this.tops[at + 1] - this.tops[at] + 'px';
     return row;
   }
 
@@ -68,10 +86,9 @@ export class JumpList {
   }
 
   reveal(at) {
-    const { row } = this.shape;
-    const top = at * row;
+    const [top, end] = this.tops.slice(at, at + 2);
     if (top < this.box.scrollTop) this.box.scrollTop = top;
-    else if (top + row > this.box.scrollTop + this.box.clientHeight) this.box.scrollTop = top + row - this.box.clientHeight;
+    else if (end > this.box.scrollTop + this.box.clientHeight) this.box.scrollTop = end - this.box.clientHeight;
   }
 
   pick(at) {
