@@ -41,6 +41,50 @@ WORDS = (
     (["version", "x"], "mdb version: x is a word too many"),
 )
 
+# A script, and where it is malformed and why.
+OPEN = b"open seeds=a:1\n"
+MALFORMED = (
+    (OPEN + b"reqest 1 1 a:1\n", "line 2, column 1: `reqest` is no step; did you mean `request`?"),
+    (OPEN + b"xyzzy 1\n", "line 2, column 1: `xyzzy` is no step\n"),
+    (b"open seeds=a:1 max=0\n", "line 1, column 16: `max=0` does not fit: max is 1 to 65535"),
+    (b"open seeds=a:1 mux=1\n", "line 1, column 16: `mux` does not stand here; did you mean `max`?"),
+    (b"open seeds=A:1\n", "line 1, column 12: `A:1` does not fit: seeds are"),
+    (b"open seeds=a\n", "line 1, column 12: `a` does not fit"),
+    (b"open seeds=a:1 min=2 max=5\n", "line 1, column 22: `max` comes too late, or twice: the order is set, direct, lb, max, min,"),
+    (b"open seeds=a:1,b:1 direct\n", "line 1, column 1: these options do not go together"),
+    (b"open seeds=a:1 \n", "line 1, column 15: a space too many"),
+    (b"open\n", "line 1, column 5: ` seeds="),
+    (b"request 1 1 a:1\n", "line 1, column 1: the first line is `open"),
+    (b"open seeds=a:1\r\n", "line 1, column 15: this line ends in a carriage return"),
+    (b"\xef\xbb\xbfopen seeds=a:1\n", "line 1, column 1: a byte order mark"),
+    (OPEN + OPEN, "line 2, column 1: `open` stands on the first line alone"),
+    (OPEN + b"\n", "line 2, column 1: an empty line"),
+    (OPEN + b"request\t1 1 a:1\n", "line 2, column 8: a tab"),
+    (OPEN + b"claim 1", "line 2, column 1: this last line has no newline"),
+    (OPEN + b"\x7fELF\x00\n", "line 2, column 1: a byte that is no printable"),
+    (OPEN + b"request\n", "line 2, column 8: a moment is wanted"),
+    (OPEN + b"request 1\n", "line 2, column 10: a party is wanted"),
+    (OPEN + b"request 01 1 a:1\n", "line 2, column 9: `01` does not fit: a moment is wanted"),
+    (OPEN + b"request 1 4294967296 a:1\n", "line 2, column 11: `4294967296` does not fit: a party is wanted"),
+    (OPEN + b"request 1 1 a:65536\n", "line 2, column 13: `a:65536` does not fit: an address is wanted"),
+    (OPEN + b"request 1  1 a:1\n", "line 2, column 11: a space too many"),
+    (OPEN + b"request 1 1 a:1 \n", "line 2, column 16: a space too many"),
+    (OPEN + b"claim 1 2\n", "line 2, column 9: `2` is too much"),
+    (OPEN + b"return 1 1 good\n", "line 2, column 12: `good` does not fit: how it was used is wanted: ok, errored, dropped or streaming"),
+    (OPEN + b"established 1 0 1\n", "line 2, column 18: ` wire=n` is wanted"),
+    (OPEN + b"established 1 0 1 wire=x\n", "line 2, column 19: `wire=x` does not fit: wire is 0 to 2147483647"),
+    (OPEN + b"established 1 0 1 wire=1 server=1 sid=0102030405060708090a0b0c\n", "line 2, column 35: `sid` comes too late, or twice: the order is wire, sid, server"),
+    (OPEN + b"error 1 1 netwrk msg=x\n", "line 2, column 11: `netwrk` is no error: network, timeout, auth, incompatible, command.CODE or other"),
+    (OPEN + b"error 1 1 network\n", "line 2, column 18: an error ends in ` msg=TEXT`"),
+    (OPEN + b"error 1 1 network tv=1 msg=x\n", "line 2, column 19: `tv=1` does not fit: tv is an object id, a point and a number"),
+    (OPEN + b"failed 1 0 1 during network msg=x\n", "line 2, column 14: `during` does not say when"),
+    (OPEN + b"hello 1 a:1 0 fine\n", "line 2, column 15: `fine` is no outcome"),
+    (OPEN + b"hello 1 a:1 0 ok rtt=1 ismaster=yes\n", "line 2, column 24: `ismaster=yes` does not fit: ismaster is true or false"),
+    (OPEN + b"hello 1 a:1 0 ok rtt=1 lastWrite=1\n", "line 2, column 24: `lastWrite` does not stand here"),
+    (OPEN + b"beaten 1 a:1 0 7 ok setNme=rs\n", "line 2, column 21: `setNme` does not stand here; did you mean `setName`?"),
+    (OPEN + b"hosts 1 a:1,B:1\n", "line 2, column 9: `a:1,B:1` does not fit: 1 to 128 different addresses are wanted"),
+)
+
 
 class Trials:
     """Counts what was tried, and tells what differs."""
@@ -105,6 +149,19 @@ def bad_words(trials: Trials) -> None:
         trials.want(it.returncode == 2 and text in it.stderr.decode() and it.stdout == b"", f"{words}: {it.returncode} {it.stderr!r}")
 
 
+def malformed(trials: Trials, folder: Path) -> None:
+    """A line that is not in the grammar is told with its column, and what could stand there."""
+    for script, text in MALFORMED:
+        (folder / "bad").write_bytes(script)
+        wanted = trials.run(data=script, program="mdb_script")
+        it = trials.run("run", "bad", folder=folder)
+        trials.want((it.returncode, it.stdout) == (wanted.returncode, wanted.stdout) and wanted.returncode == 5, f"{script!r} beside mdb_script: {it.returncode}")
+        error = it.stderr.decode()
+        trials.want(error.startswith(f"mdb: bad: {text}") and error.count("\n") == 1, f"{script!r}: {error!r}")
+        shared = trials.run("share", "2", data=script)
+        trials.want(shared.returncode == 5 and shared.stderr.decode().startswith(f"mdb: standard input: {text}"), f"share of {script!r}: {shared.stderr!r}")
+
+
 def bad_files(trials: Trials, folder: Path) -> None:
     (folder / "closed").write_bytes(SCRIPT)
     (folder / "closed").chmod(0)
@@ -151,6 +208,7 @@ def main() -> int:
         same_as_programs(trials, folder)
         helps(trials)
         bad_words(trials)
+        malformed(trials, folder)
         bad_files(trials, folder)
         outputs(trials, folder)
     print(f"{trials.tried} tried, {trials.failed} differ")

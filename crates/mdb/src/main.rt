@@ -3,6 +3,8 @@
 
 mod ending;
 mod files;
+mod kept;
+mod malformed;
 mod output;
 mod performing;
 mod refusals;

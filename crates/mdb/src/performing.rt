@@ -4,13 +4,15 @@ ghost use Rattle.mdb_commands.specs.Commands.{Fits};
 
 use crate::ending::{end, error_of, tell_of};
 use crate::files::open_file;
+use crate::kept::Kept;
+use crate::malformed::tell_malformed;
 use crate::output::Output;
 use crate::script::run;
 use mdb_audit::run_audit;
 use mdb_base::{NullSink, PlainSource, Reading, Sink, Source, Writing};
 use mdb_commands::{Command, Input, Subcommand, help_of, tool_help, version};
 use mdb_fleet_runs::run_fleet;
-use mdb_lines::{RunError, Status, tell_usage, write_all};
+use mdb_lines::{RunError, Status, status_of, tell_usage, write_all};
 use mdb_proxy_runs::run_proxy;
 use mdb_recording_runs::run_recorded;
 use mdb_runs::run_made;
@@ -82,24 +84,29 @@ fn perform_on<R: AllocGlobal + Threads + Wait + Sync, S: Source, K: Sink>(
 }
 
 // Does what the command asks for, tells what ended it early, and answers the status.
-fn perform_from<R: AllocGlobal + Threads + Wait + Sync, S: Source>(
+fn perform_from<R: AllocGlobal + Threads + Wait + Sync, S: Source + Drop>(
     rt: &R,
     host: &HostRuntime,
     command: Command<'_>,
     name: &str,
-    source: &mut S,
+    source: S,
 ) -> Status
     requires { Fits command }
 {
+    let mut source = Kept::new(rt.alloc(), source);
     let mut output = Output::new(host.stdout());
     let mut errors = Writing::new(host.stderr());
-    let answer = perform_on(rt, command, source, &mut output);
-    match answer {
-        Ok(2) => {
+    let answer = perform_on(rt, command, &mut source, &mut output);
+    match (command, answer) {
+        (Command::Run(_) | Command::Share(_, _), Err(RunError::Malformed(number))) => {
+            tell_malformed(rt.alloc(), &mut errors, name, source.read_bytes(), number);
+            status_of(RunError::Malformed(number))
+        }
+        (Command::Judge(_, _), Ok(2)) => {
             tell_usage(&mut errors, help_of(Subcommand::Judge));
             2
         }
-        answer => end(&mut errors, name, &output, answer),
+        (_, answer) => end(&mut errors, name, &output, answer),
     }
 }
 
@@ -126,17 +133,17 @@ pub(crate) fn perform<R: AllocGlobal + Threads + Wait + Sync>(
 {
     match input_of(command) {
         None => {
-            let mut nothing = PlainSource::new(Vec::new(rt.alloc()));
-            perform_from(rt, host, command, "", &mut nothing)
+            let nothing = PlainSource::new(Vec::new(rt.alloc()));
+            perform_from(rt, host, command, "nothing", nothing)
         }
         Some(Input::Standard) => {
-            let mut source = Reading::new(host.stdin());
-            perform_from(rt, host, command, "standard input", &mut source)
+            let source = Reading::new(host.stdin());
+            perform_from(rt, host, command, "standard input", source)
         }
         Some(Input::File(path)) => match open_file(host, path) {
             Ok(file) => {
-                let mut source = Reading::new(file);
-                perform_from(rt, host, command, path, &mut source)
+                let source = Reading::new(file);
+                perform_from(rt, host, command, path, source)
             }
             Err(reason) => {
                 tell_of(&mut Writing::new(host.stderr()), path, reason);
