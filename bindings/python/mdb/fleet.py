@@ -7,7 +7,7 @@ from ctypes import byref, c_size_t, c_uint32, c_uint64, create_string_buffer
 from dataclasses import dataclass
 
 from ._library import LIBRARY, MemberNumbers
-from .errors import NoRoom, check
+from .errors import NoEntry, NoRoom, check
 from .numbers import number
 
 
@@ -65,7 +65,7 @@ class Fleet:
     def member(self, member: int) -> Member:
         """What the member holds for true now."""
         if not 0 <= member < self._count:
-            check(6, member)
+            raise NoEntry(member)
         it = self._members[member]
         return Member(it.set_version, it.election if it.primary else None, it.counter)
 
