@@ -1,6 +1,6 @@
-// For a fuzzer: bytes as a server may send them go through the reader of messages, and what it makes of them goes to the library, which must be able to
-// read it. The first byte says in which form the command was sent, and whether a reply came before, or that the rest is a server's message of SCRAM. Ends by
-// abort() where a line is malformed.
+// For a fuzzer: bytes as a server may send them go through the reader of messages. An answer goes to the library as a document, which may find it bad; an error
+// goes there as a line, which must be well formed. The first byte says in which form the command was sent, and whether a reply came before, or that the rest is
+// a server's message of SCRAM. Ends by abort() where a line is malformed.
 #include "handshake.h"
 #include "mdb.h"
 #include "scram.h"
@@ -12,12 +12,32 @@
 
 static const uint8_t OPEN[] = "open seeds=a:1", MONITOR[] = "a:1 0", ADDRESS[] = "a:1";
 
+static void tell_error(mdb_slot *slot, const mdb_at *at, const struct handshake *shake) {
+    char room[ERROR_ROOM + 64];
+    struct text outcome = TEXT_IN(room);
+    mdb_reply reply;
+    text_add(&outcome, "1 err %s", shake->room);
+    mdb_status status = mdb_beaten(slot, at, MONITOR, sizeof MONITOR - 1, (const uint8_t *)room, outcome.length, &reply);
+    if (status == MDB_OK) return;
+    fprintf(stderr, "status %u: %s\n", status, room);
+    abort();
+}
+
+static void tell_answer(mdb_slot *slot, const mdb_at *at, struct handshake *shake) {
+    mdb_answered answered;
+    mdb_came came = { .moment = at->moment, .nanos = 1, .more = shake->more };
+    const struct reply *answer = &shake->answer;
+    mdb_status status = mdb_beaten_bson(slot, &came, ADDRESS, sizeof ADDRESS - 1, answer->document, answer->length, &answered);
+    if (status != MDB_OK && status != MDB_BAD_DOCUMENT) abort();
+    if (status == MDB_OK) return;
+    handshake_refuse(shake, &answered.bad);
+    tell_error(slot, at, shake);
+}
+
 // Begins and ends a check with this outcome.
-static void tell(const struct handshake *shake) {
+static void tell(struct handshake *shake) {
     static mdb_slot slot = MDB_SLOT_INIT;
     static unsigned steps = 0;
-    char room[REPLY_ROOM + 64];
-    struct text outcome = TEXT_IN(room);
     mdb_reply reply;
     mdb_at at = { 1, 0 };
     if (steps++ % 1000 == 0) {
@@ -29,12 +49,8 @@ static void tell(const struct handshake *shake) {
         steps = 0;
         return;
     }
-    text_add(&outcome, "1 %s%s%s", shake->ok ? "ok" : "err ", shake->room, shake->ok && shake->more ? " more" : "");
-    mdb_status status = mdb_beaten(&slot, &at, MONITOR, sizeof MONITOR - 1, (const uint8_t *)room, outcome.length, &reply);
-    if (status != MDB_OK) {
-        fprintf(stderr, "status %u: %s\n", status, room);
-        abort();
-    }
+    if (shake->ok) tell_answer(&slot, &at, shake);
+    else tell_error(&slot, &at, shake);
 }
 
 enum { INPUT_MOST = 200000, BUFFER = 400000 };
@@ -63,6 +79,7 @@ static void try_messages(const uint8_t *bytes, size_t length) {
     for (int i = 0; i < 4; i++) {
         handshake_again(&shake, &conn, NULL);
         tell(&shake);
+        handshake_end(&shake);
         if (shake.network) break;
     }
     sock_close(&conn.sock);

@@ -55,6 +55,16 @@ mdb_status beaten_step(mdb_slot *slot, const mdb_at *at, const struct step *step
     return mdb_beaten(slot, at, bytes_of(step->name_text), length_of(step->name_text), bytes_of(step->text), length_of(step->text), reply);
 }
 
+mdb_status answered_step(mdb_slot *slot, const mdb_at *at, const struct step *step, mdb_reply *reply) {
+    mdb_answered answered;
+    mdb_came came = { .moment = at->moment, .nanos = step->nanos, .pool = step->number, .more = step->document->more };
+    const struct reply *document = step->document;
+    mdb_status status = mdb_beaten_bson(slot, &came, bytes_of(step->name_text), length_of(step->name_text), document->document, document->length, &answered);
+    if (status == MDB_OK) *reply = answered.reply;
+    if (status == MDB_BAD_DOCUMENT) *step->bad = answered.bad;
+    return status;
+}
+
 mdb_status rtt_step(mdb_slot *slot, const mdb_at *at, const struct step *step, mdb_reply *reply) {
     return mdb_rtt(slot, at, bytes_of(step->name_text), length_of(step->name_text), step->nanos, reply);
 }
@@ -210,7 +220,7 @@ mdb_reply driver_step(client_t *client, step_call *call, const struct step *step
         show(client);
         return reply;
     }
-    if (client->failed == MDB_NET_OK) client_fail(client, status == MDB_NO_MEMORY ? MDB_NET_NO_MEMORY : MDB_NET_INTERNAL);
+    if (client->failed == MDB_NET_OK && status != MDB_BAD_DOCUMENT) client_fail(client, status == MDB_NO_MEMORY ? MDB_NET_NO_MEMORY : MDB_NET_INTERNAL);
     return (mdb_reply){ .kind = MDB_REFUSED };
 }
 

@@ -9,9 +9,11 @@ struct step {
     uint32_t number; // a party, a watcher, or the pool of a check
     uint32_t used;   // MDB_USE_
     mdb_connection name;
-    const char *name_text; // an address, or a monitor
-    const char *text;      // an outcome, an error, hosts, or a service
-    uint64_t nanos;        // or a time of the cluster's clock
+    const char *name_text;        // an address, or a monitor
+    const char *text;             // an outcome, an error, hosts, or a service
+    const struct reply *document; // of a hello
+    mdb_document_fault *bad;      // what is bad in it, where that is something
+    uint64_t nanos;               // or a time of the cluster's clock
     int32_t wire;
     int64_t server;
 };
@@ -21,7 +23,7 @@ typedef mdb_status step_call(mdb_slot *slot, const mdb_at *at, const struct step
 
 // The steps.
 step_call request_step, collect_step, give_up_step, return_step, error_step, claim_step, established_step, failed_step, maintain_step, expire_step, beat_step,
-    beaten_step, rtt_step, want_step, unwant_step, hosts_step, cluster_time_step, pin_step, take_step, unpin_step, stop_step;
+    beaten_step, answered_step, rtt_step, want_step, unwant_step, hosts_step, cluster_time_step, pin_step, take_step, unpin_step, stop_step;
 
 // Makes a step, and hands its facts to all whom they concern. Where libmdb finds no memory the step is made again after some milliseconds, for which the lock
 // is released; where it finds none for seconds, or the step is none, the client ends with that as its reason. The reply is MDB_REFUSED then.

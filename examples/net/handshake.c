@@ -6,6 +6,7 @@ static void begin(struct handshake *shake) {
     shake->ok = shake->network = shake->more = false;
     shake->fault = NET_FINE;
     shake->nanos = 0;
+    shake->answer = (struct reply){ .body = NULL };
     shake->reply = (struct hello_reply){ .server = -1 };
     shake->text = TEXT_IN(shake->room);
     shake->room[0] = 0;
@@ -17,17 +18,22 @@ static void fail(struct handshake *shake, enum net_fault fault, const char *doin
     error_of_fault(&shake->text, fault, doing);
 }
 
-static void read_reply(struct handshake *shake, const struct reply *reply) {
-    shake->more = reply->more;
-    mdb_net_code code = error_of_reply(&shake->text, reply).code;
+static void read_answer(struct handshake *shake) {
+    shake->more = shake->answer.more;
+    mdb_net_code code = error_of_reply(&shake->text, &shake->answer).code;
     shake->network = code == MDB_NET_NETWORK;
     if (code != MDB_NET_OK) return;
-    hello_read(reply, &shake->text, &shake->reply);
-    shake->ok = !shake->reply.wrong;
-    if (shake->ok) return;
-    shake->text = TEXT_IN(shake->room);
-    error_of_form(&shake->text, shake->reply.wrong);
+    shake->ok = shake->answer.length <= HELLO_MOST;
+    if (shake->ok) hello_read(&shake->answer, &shake->reply);
+    else error_of_form(&shake->text, "the length of the document");
 }
+
+void handshake_refuse(struct handshake *shake, const mdb_document_fault *bad) {
+    shake->ok = false;
+    error_of_form(&shake->text, bad->kind == MDB_DOCUMENT_FIELD ? bad->field : "the document");
+}
+
+void handshake_end(struct handshake *shake) { reply_free(&shake->answer); }
 
 static enum net_fault send_hello(struct conn *conn, const struct hello *hello) {
     struct document document;
@@ -37,15 +43,13 @@ static enum net_fault send_hello(struct conn *conn, const struct hello *hello) {
 }
 
 void handshake_again(struct handshake *shake, struct conn *conn, const struct hello *hello) {
-    struct reply reply = { .body = NULL };
     begin(shake);
     uint64_t began = clock_now();
     enum net_fault fault = hello ? send_hello(conn, hello) : NET_FINE;
-    if (!fault) fault = wire_receive(conn, &reply);
+    if (!fault) fault = wire_receive(conn, &shake->answer);
     shake->nanos = clock_now() - began;
     if (fault) fail(shake, fault, "hello");
-    else read_reply(shake, &reply);
-    reply_free(&reply);
+    else read_answer(shake);
 }
 
 static bool secure(struct handshake *shake, struct sock *sock, const struct tls_context *tls, const char *address) {

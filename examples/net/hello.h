@@ -1,11 +1,10 @@
-// The command that greets a server, and the fields of its reply as lines of libmdb have them.
+// The command that greets a server, and what a connection has to know of the reply. What it says of the server libmdb reads by itself.
 #ifndef NET_HELLO_H
 #define NET_HELLO_H
 
-#include "text.h"
 #include "wire.h"
 
-#define REPLY_ROOM 65536
+enum { HELLO_MOST = 65536 }; // bytes of a reply that is read
 
 // What a hello is to say.
 struct hello {
@@ -23,16 +22,14 @@ struct hello {
 // Writes the command. Its database, admin, stands in the document where it goes as a message.
 void hello_command(struct document *document, const struct hello *hello, bool as_message);
 
-// What a reply says, beside its fields.
+// What a reply says of the connection.
 struct hello_reply {
     bool hello_known, has_service;
-    int32_t wire;      // maxWireVersion
-    int64_t server;    // connectionId, -1 where absent
-    char service[25];  // serviceId, in hex digits
-    const char *wrong; // the field that has another type, or a value that no line spells; NULL where there is none
+    int32_t wire;     // maxWireVersion
+    int64_t server;   // connectionId, -1 where absent
+    char service[25]; // serviceId, in hex digits
 };
 
-// Writes the fields of a reply behind the text, each as ` NAME=VALUE`, in the order of libmdb's grammar.
-void hello_read(const struct reply *reply, struct text *fields, struct hello_reply *read);
+void hello_read(const struct reply *reply, struct hello_reply *read);
 
 #endif

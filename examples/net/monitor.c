@@ -48,18 +48,37 @@ static void run_check(struct monitor *m, const mdb_check *check) {
 // The outcome of the check as libmdb reads it. What was missing here says nothing of the server: such a check counts as cancelled.
 static void put_outcome(const struct handshake *shake, uint64_t nanos, struct text *outcome) {
     bool cancelled = shake->fault == NET_CANCELLED || is_shortage(shake->fault);
-    text_add(outcome, "%llu %s", (unsigned long long)nanos, shake->ok ? "ok" : cancelled ? "cancelled " : "err ");
-    text_add(outcome, "%s", shake->room);
-    if (shake->ok && shake->more) text_add(outcome, " more");
+    text_add(outcome, "%llu %s %s", (unsigned long long)nanos, cancelled ? "cancelled" : "err", shake->room);
+}
+
+static mdb_status tell_error(struct monitor *m, uint64_t nanos, uint32_t *next) {
+    struct text outcome = TEXT_IN(m->outcome);
+    struct step step = { .name_text = m->name, .text = m->outcome };
+    put_outcome(&m->shake, nanos, &outcome);
+    mdb_status status = mdb_check_next(&m->client->slot, bytes_of(m->name), strlen(m->name), bytes_of(m->outcome), outcome.length, next);
+    driver_step(m->client, beaten_step, &step);
+    return status;
+}
+
+// Checks go on at once where the server answers when something changes.
+static mdb_status tell_answer(struct monitor *m, uint64_t nanos, uint32_t *next) {
+    mdb_check check;
+    mdb_document_fault bad = { .kind = 0 };
+    struct step step = { .name_text = m->address, .number = m->pool, .document = &m->shake.answer, .bad = &bad, .nanos = nanos };
+    driver_step(m->client, answered_step, &step);
+    if (bad.kind) {
+        handshake_refuse(&m->shake, &bad);
+        return tell_error(m, nanos, next);
+    }
+    mdb_status status = mdb_check_get(&m->client->slot, bytes_of(m->address), strlen(m->address), &check);
+    if (status == MDB_OK && check.awaits) *next = MDB_NEXT_CONTINUE;
+    return status;
 }
 
 // Tells libmdb how the check ended, and answers what is next, MDB_NEXT_SLEEP or another.
 static uint32_t end_check(struct monitor *m, uint64_t nanos) {
     client_t *client = m->client;
-    struct text outcome = TEXT_IN(m->outcome);
     uint32_t next = MDB_NEXT_SLEEP;
-    put_outcome(&m->shake, nanos, &outcome);
-    struct step step = { .name_text = m->name, .text = m->outcome };
     client_lock(client);
     m->checking = false;
     if (is_shortage(m->shake.fault)) {
@@ -67,14 +86,14 @@ static uint32_t end_check(struct monitor *m, uint64_t nanos) {
         m->wanted = true;
     }
     if (!m->closed) {
-        mdb_status status = mdb_check_next(&client->slot, bytes_of(m->name), strlen(m->name), bytes_of(m->outcome), outcome.length, &next);
+        mdb_status status = m->shake.ok ? tell_answer(m, nanos, &next) : tell_error(m, nanos, &next);
         m->wanted = m->wanted || status == MDB_NO_MEMORY;
-        driver_step(client, beaten_step, &step);
     }
     m->streams = next == MDB_NEXT_CONTINUE;
     pthread_cond_broadcast(&m->news);
     client_unlock(client);
     if (!m->shake.ok) sock_close(&m->conn.sock);
+    handshake_end(&m->shake);
     return next;
 }
 

@@ -21,7 +21,7 @@ struct monitor {
     // The checking thread's own:
     struct conn conn;
     struct handshake shake;
-    char outcome[REPLY_ROOM + 64];
+    char outcome[ERROR_ROOM + 64];
     // The measuring thread's own:
     struct conn rtt_conn;
     struct handshake rtt_shake;

@@ -38,6 +38,7 @@ static void measure(struct monitor *m, bool *hello_known) {
     }
     if (m->rtt_shake.ok) tell(m, m->rtt_shake.nanos);
     else sock_close(&m->rtt_conn.sock);
+    handshake_end(&m->rtt_shake);
 }
 
 void *rtt_run(void *given) {

@@ -141,6 +141,7 @@ static bool make(struct worker *worker, struct conn *conn, const char *address, 
     conn->sock.cancel = worker->cancel;
     conn->sock.deadline = deadline_in(options->connect);
     handshake_first(shake, conn, &hello, client->tls, address);
+    handshake_end(shake);
     failure->cause.code = is_shortage(shake->fault) ? code_of_fault(shake->fault) : MDB_NET_NETWORK;
     if (!shake->ok) text_add(&line, "%s", shake->room);
     else if (options->load_balanced && !shake->reply.has_service) text_add(&line, "other msg=a load balancer that names no service");
