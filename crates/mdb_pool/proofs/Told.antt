@@ -4,3 +4,4 @@ pub mod OfQueries
 pub mod OfSome
 pub mod ServicesOfClears
 pub mod JobGenerations
+pub mod Counts

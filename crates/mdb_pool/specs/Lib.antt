@@ -6,3 +6,5 @@ pub mod Planning
 pub mod Composing
 pub mod Kept
 pub mod Acts
+pub mod Counted
+pub mod Dues

@@ -3,6 +3,8 @@
 
 mod acts;
 pub mod composing;
+mod counting;
+mod dues;
 mod job;
 mod kept;
 pub mod planning;
@@ -10,6 +12,7 @@ mod pool_core;
 mod reading;
 mod steps;
 
+pub use dues::Timer;
 pub use kept::status::PoolState;
 pub use mdb_log::{
     Act, BeatenResult, ConnectionGeneration, Core, DEFAULT_MAX_POOL_SIZE, Entry, Established,

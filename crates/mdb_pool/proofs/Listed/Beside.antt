@@ -1,5 +1,5 @@
 -- What the lists beside the tables of a pool say.
-use Rattle.std.proofs.Common.{◌≡◌, ◌≤◌, ℕ, Bool, true, false, not, ◌&&◌, ◌||◌, Option, Some, None, List, [], ◌∷◌, filter, find, length, refl, ◌∙◌, ap, arith}
+use Rattle.std.proofs.Common.{◌≡◌, ◌≤◌, ◌+◌, ℕ, Bool, true, false, not, ◌&&◌, ◌||◌, Option, Some, None, List, [], ◌∷◌, filter, find, length, refl, ◌∙◌, ap, arith}
 use Rattle.std.proofs.lemmas.Grind.{common_steps}
 use Rattle.mdb_log.specs.Connections.{has}
 use Rattle.mdb_slots.specs.Lists.{has as among}
@@ -56,6 +56,11 @@ listed_length key service since test xs = length-map (filter test xs) (record_of
 -- a list has as many numbers as values meet its test
 pub numbered_length : {T : Type 0} (key : T → ℕ) (test : T → Bool) (xs : List T) → length (numbered key test xs) ≡ count_by test xs
 numbered_length key test xs = length-map (filter test xs) key ∙ length-filter test xs
+
+-- those that meet a test meet another as well, or do not
+pub both_apart : {T : Type 0} (p w : T → Bool) (xs : List T) → count_by (λ x. p x && w x) xs + count_by (λ x. p x && not (w x)) xs ≡ count_by p xs
+both_apart p w [] = refl
+both_apart p w (x ∷ xs) = grind (arith, common_steps, both_apart p w xs)
 
 -- no more meet two tests than one of them
 fewer_both : {T : Type 0} (p w : T → Bool) (xs : List T) → count_by (λ x. p x && w x) xs ≤ count_by p xs

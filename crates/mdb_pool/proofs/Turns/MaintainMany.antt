@@ -139,7 +139,7 @@ module _ (t : PoolCore) (ys : List PoolItem) (z : Fits t ys) (n : ℕ) where
       ∙ ap (λ cs. closed_fact t.pool t.address x.id why x.service ∷ sweep t.pool t.address t.options n (closed x.id ∷ ys) (without x.id cs)) (sym z.matches.counts.available))
 
   -- whether maintenance creates one more
-  fills-is : (ready (state_of t.options ys) && (nat_lt (live_total ys) (min_size t.options) && (nat_lt (length (pending_list ys)) (max_connecting t.options) && nat_lt (created_total ys) t.options.limit_id))) ≡ fills_now t
+  pub fills-is : (ready (state_of t.options ys) && (nat_lt (live_total ys) (min_size t.options) && (nat_lt (length (pending_list ys)) (max_connecting t.options) && nat_lt (created_total ys) t.options.limit_id))) ≡ fills_now t
   fills-is =
       let pending : length (pending_list ys) ≡ pending_count t = ap length z.matches.counts.pending ∙ length-where id_of (λ x. is_pending x.place) t.kept.connections in
       rw (z.matches.clearing.status, ready-is t.kept.status, z.matches.counts.live_all, pending, z.matches.counts.created) refl

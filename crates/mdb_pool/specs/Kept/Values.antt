@@ -9,6 +9,8 @@ use Rattle.mdb_pool.specs.declared.kept.request.Request.{Request}
 use Rattle.mdb_pool.specs.declared.kept.request.Phase.{Phase}
 use Rattle.mdb_pool.specs.declared.kept.request.Phase.TheVariants.{Queued, Given, Over, Ended as EndedPhase}
 use Rattle.mdb_pool.specs.Core.{PoolCore}
+use Rattle.mdb_pool.specs.Dues.{first_from, limit_after, timer_by}
+use Rattle.mdb_pool.specs.declared.dues.Timer.{Timer}
 use Rattle.mdb_pool.specs.Kept.Places.{is_done, is_pending, is_available, is_held, is_at_pin, is_queued}
 use Rattle.mdb_slots.specs.Keyed.{entry_at}
 use Rattle.mdb_log.specs.Generations.{carried}
@@ -58,6 +60,24 @@ last_available s = last_from None s.kept.connections
 
 abbrev pub pending_count : PoolCore → ℕ
 pending_count s = count_by (λ x. is_pending x.place) s.kept.connections
+
+abbrev pub available_count : PoolCore → ℕ
+available_count s = count_by (λ x. is_available x.place) s.kept.connections
+
+-- the available connection that became so first
+abbrev pub first_available : PoolCore → Option Connection
+first_available s = find (λ x. is_available x.place) s.kept.connections
+
+-- neither available nor pending
+abbrev pub in_use_count : PoolCore → ℕ
+in_use_count s = (length s.kept.connections - available_count s) - pending_count s
+
+abbrev pub queued_count : PoolCore → ℕ
+queued_count s = count_by (λ q. is_queued q.phase) s.kept.requests
+
+-- the queued callers
+abbrev pub waiting_count : PoolCore → ℕ
+waiting_count s = queued_count s - count_by (λ q. is_queued q.phase && q.warm) s.kept.requests
 
 abbrev pub has_room : PoolCore → Bool
 has_room s = nat_lt s.kept.created s.options.limit_id && (nat_lt (length s.kept.connections) (max_size s.options) && nat_lt (pending_count s) (max_connecting s.options))
@@ -112,6 +132,16 @@ is_ended_at o = is_some (end_at o)
 abbrev pub asked_at_of : Option Request → ℕ
 asked_at_of None = 0
 asked_at_of (Some q) = q.asked_at
+
+-- when it asked
+abbrev pub asked_in : Option Request → Option ℕ
+asked_in None = None
+asked_in (Some q) = Some q.asked_at
+
+-- since when it is available
+abbrev pub since_in : Option Connection → Option ℕ
+since_in None = None
+since_in (Some x) = Some x.since
 
 -- the request is a warm one
 abbrev pub warm_of : Option Request → Bool
@@ -374,3 +404,18 @@ kept_holder s x = of_holder x.holder
 -- those that have not left
 abbrev pub kept_requests : PoolCore → List Request
 kept_requests s = filter (lingers s.kept.settled) s.kept.requests
+
+-- when the first caller that is queued has waited for too long
+abbrev pub expiry_now : PoolCore → Option ℕ
+expiry_now s = limit_after s.options.max_wait (asked_in (first_caller s))
+
+-- when maintenance changes something, from the moment m on
+abbrev pub maintenance_now : PoolCore → ℕ → Option ℕ
+maintenance_now s m = if fills_now s || is_some (first_perished s m) then Some m else limit_after s.options.max_idle_time (since_in (first_available s))
+
+-- the timer that changes something at the moment m, and the first moment from m on at which one does
+abbrev pub timer_now : PoolCore → ℕ → Option Timer
+timer_now s m = timer_by m (expiry_now s) (maintenance_now s m)
+
+abbrev pub due_now : PoolCore → ℕ → Option ℕ
+due_now s m = first_from m (expiry_now s) (maintenance_now s m)

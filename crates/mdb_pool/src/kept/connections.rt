@@ -181,6 +181,14 @@ impl Connections {
         self.live.right().len()
     }
 
+    /// How many are available.
+    #[tactic(auto, using(crate::proofs::Listed::Beside::listed_length))]
+    pub(crate) fn available_count(&self) -> usize
+        ensures { result ≡ count_by (λ x. is_available x.place) self.now.now }
+    {
+        self.live.left().len()
+    }
+
     /// The pending one that came first among those that no claim was told of.
     pub(crate) fn first_unclaimed(&self) -> Option<&Connection>
         ensures { option_copied result ≡ find (λ x. is_pending x.place && not (has x.id self.now.claimed)) self.now.now }

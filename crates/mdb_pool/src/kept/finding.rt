@@ -73,7 +73,7 @@ impl Body {
     }
 
     // The first of the queued callers. Warm requests that are queued before it are passed by.
-    fn first_caller(&self) -> Option<&Request>
+    pub(crate) fn first_caller(&self) -> Option<&Request>
         ensures { option_copied result ≡ first_caller (now_of self.now) }
     {
         if self.requests.warm_count() == self.requests.queued_count() {
