@@ -1,7 +1,9 @@
 #!/usr/bin/env python3
-"""Records pymongo and the Go driver under load and through a failover, and judges what they recorded.
+"""Records drivers of Debian under load and through a failover, and judges what they recorded.
 
-usage: examples/recording/run.py [--judge PROGRAM] [--seconds N] [--keep FOLDER]
+usage: examples/recording/run.py [--judge PROGRAM] [--seconds N] [--keep FOLDER] [DRIVER ..]
+
+DRIVER is pymongo, go, node or ruby; all where none is named.
 
 The servers are those of checks/live/servers.py: a replica set of three on loopback. While the load runs the primary steps down, a member
 is killed and comes back, connections are reset and a member is frozen. PROGRAM is mdb_recorded, as `rt run` leaves it in
@@ -18,8 +20,8 @@ import time
 HERE = os.path.dirname(os.path.abspath(__file__))
 TOP = os.path.dirname(os.path.dirname(HERE))
 PYTHON = '/usr/bin/python3'
-# The CMAP of each driver's age: pymongo 3.11 and version 1.8 of the Go driver know no paused pools.
-DRIVERS = [('pymongo', '2020'), ('go', '2020')]
+# The CMAP of each driver's age: pymongo 3.11, version 1.8 of the Go driver and 3.6 of Node's know no paused pools. Ruby's 2.5 tells nothing of pools.
+DRIVERS = {'pymongo': '2020', 'go': '2020', 'node': '2020', 'ruby': '2020'}
 PLAY = ['stepdown', 'elect 1', 'reset 1', 'kill 1', 'elect 2', 'start 1', 'freeze 2', 'thaw 2', 'elect 0', 'fail 0 11600 5', 'reset 0', 'elect 1']
 
 
@@ -27,6 +29,10 @@ def program(driver, folder):
     """The command that records with a driver."""
     if driver == 'pymongo':
         return [PYTHON, os.path.join(HERE, 'record_pymongo.py')]
+    if driver == 'node':
+        return ['env', 'NODE_PATH=/usr/share/nodejs', 'node', os.path.join(HERE, 'record_node.js')]
+    if driver == 'ruby':
+        return ['ruby', os.path.join(HERE, 'record_ruby.rb')]
     out = os.path.join(folder, 'record_go')
     env = {**os.environ, 'GO111MODULE': 'off', 'GOPATH': '/usr/share/gocode', 'GOCACHE': os.path.join(folder, 'cache')}
     subprocess.run(['go', 'build', '-o', out, os.path.join(HERE, 'record_go.go')], env=env, check=True)
@@ -63,6 +69,7 @@ def record(driver, folder, seconds, servers):
 
 def main():
     parser = argparse.ArgumentParser(description=__doc__.split('\n')[0])
+    parser.add_argument('drivers', nargs='*', metavar='DRIVER', default=[])
     parser.add_argument('--judge')
     parser.add_argument('--seconds', type=float, default=12)
     parser.add_argument('--keep')
@@ -70,11 +77,11 @@ def main():
     args = parser.parse_args()
     folder = args.keep or tempfile.mkdtemp()
     os.makedirs(folder, exist_ok=True)
-    for driver, age in DRIVERS:
+    for driver in args.drivers or DRIVERS:
         path = record(driver, folder, args.seconds, args.servers)
         print('%s: %d lines' % (path, sum(1 for _ in open(path))))
         if args.judge:
-            answer = subprocess.run([args.judge, '--cmap', age], stdin=open(path), capture_output=True, text=True)
+            answer = subprocess.run([args.judge, '--cmap', DRIVERS[driver]], stdin=open(path), capture_output=True, text=True)
             lines = answer.stdout.splitlines()
             sys.stdout.write('\n'.join(lines[:20] + (['..'] if len(lines) > 40 else []) + lines[20:][-20:]) + '\n')
             print('status %d' % answer.returncode)
