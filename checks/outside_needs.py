@@ -17,6 +17,7 @@ PACKAGES = {
     "valgrind": "valgrind",
     "ss": "iproute2",
     "go": "golang-go",
+    "/usr/share/gocode/src/go.mongodb.org/mongo-driver": "golang-mongodb-mongo-driver-dev",
     "cargo": "cargo",
     "dpkg-deb": "dpkg",
     "aarch64-linux-gnu-gcc": "gcc-aarch64-linux-gnu",

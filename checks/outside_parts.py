@@ -67,6 +67,7 @@ def judges(built: Built) -> list[Command]:
         command(built.python, CHECKS / "recorded/cases.py", built.program("mdb_recorded")),
         command(built.python, CHECKS / "recorded/mutants.py", built.program("mdb_recorded"), 200),
         command(built.python, CHECKS / "recorded/own.py", built.program("mdb_recorded"), built.program("mdb_script"), 100),
+        command(built.python, CHECKS / "recorded/standard.py", built.program("mdb_recorded")),
     ]
 
 
@@ -134,7 +135,7 @@ PARTS = {
         Part("go", "the binding for Go", ("go",), (LIBRARY,), go),
         Part("rust", "the binding for Rust", ("cargo",), (LIBRARY,), rust),
         Part("cases", "cases of replica sets and of shares", (), ("mdb_fleet", "mdb_proxy"), cases),
-        Part("judges", "changed logs and recordings, against plain definitions", (), ("mdb_script", "mdb_auditor", "mdb_recorded"), judges),
+        Part("judges", "changed logs and recordings, against plain definitions", ("/usr/share/gocode/src/go.mongodb.org/mongo-driver",), ("mdb_script", "mdb_auditor", "mdb_recorded"), judges),
         Part("storm", "failovers in made-up time, with sanitizers", (), (LIBRARY,), storm),
         Part("packaging", "what make dist refuses, over a made-up checkout", ("gcc", "dpkg-deb", *CROSS), (), packaging),
         Part("pages", "whether pages quote what stands in the tree", (), (), pages),

@@ -33,7 +33,8 @@ function members(event) {
     told.to = event.newDescription.type;
   }
   if (event.serviceId) told.serviceId = String(event.serviceId);
-  if (typeof event.reason === 'string') told.reason = event.reason;
+  // a check-out whose connection could not be established fails with the error itself
+  if (event.reason) told.reason = typeof event.reason === 'string' ? event.reason : 'connectionError';
   for (const option of OPTIONS) told[option] = event.options && event.options[option];
   return told;
 }
