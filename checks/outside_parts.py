@@ -110,7 +110,8 @@ def packaging(built: Built) -> list[Command]:
 
 
 def pages(built: Built) -> list[Command]:
-    return [command(built.python, CHECKS / f"{it}.py") for it in ("quotes", "definitions")]
+    shown = command(built.python, CHECKS / "blocks.py", built.program("mdb_script").parent, "--library", built.library / "libmdb.so")
+    return [shown, *(command(built.python, CHECKS / f"{it}.py") for it in ("quotes", "definitions"))]
 
 
 CROSS = ("aarch64-linux-gnu-gcc", "/usr/aarch64-linux-gnu/lib/libc.so.6", "/usr/lib/x86_64-linux-musl/libc.a", "/usr/lib/aarch64-linux-musl/libc.a")
@@ -138,6 +139,6 @@ PARTS = {
         Part("judges", "changed logs and recordings, against plain definitions", ("/usr/share/gocode/src/go.mongodb.org/mongo-driver",), ("mdb_script", "mdb_auditor", "mdb_recorded"), judges),
         Part("storm", "failovers in made-up time, with sanitizers", (), (LIBRARY,), storm),
         Part("packaging", "what make dist refuses, over a made-up checkout", ("gcc", "dpkg-deb", *CROSS), (), packaging),
-        Part("pages", "whether pages quote what stands in the tree", (), (), pages),
+        Part("pages", "whether pages quote what stands in the tree, and show what programs write", (), (LIBRARY, "mdb_script", "mdb_proxy", "mdb_fleet", "mdb_auditor"), pages),
     )
 }
