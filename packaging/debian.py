@@ -5,11 +5,12 @@ import os
 from email.utils import formatdate
 from pathlib import Path
 
+import packages as plain_packages
 import packed
 from linked import Made
 from plain import files_below, put, write
 from release import Release
-from shipped import HERE, MAINTAINER
+from shipped import HERE, MAINTAINER, TOOL
 
 # The oldest glibc that has what the shared library asks for, malloc and five more.
 OLDEST = {"x86_64": "2.14", "aarch64": "2.17"}
@@ -68,7 +69,9 @@ def tools(of: Release, made: Made, room: Path) -> None:
     packed.gz(of.manual().encode(), manual / "mdb.1.gz")
     for it in made.programs:
         put(it, tree / "usr/bin" / it.name, 0o755)
-        os.symlink("mdb.1.gz", manual / f"{it.name}.1.gz")
+        if it.name != TOOL:
+            os.symlink("mdb.1.gz", manual / f"{it.name}.1.gz")
+    plain_packages.completions(tree / "usr/share")
     for it in of.documents:
         packed.gz((of.sources / "docs" / it).read_bytes(), tree / "usr/share/doc" / package / f"{it}.gz")
     put(HERE / "debian/mdb-tools.overrides", tree / "usr/share/lintian/overrides" / package)

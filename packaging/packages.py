@@ -9,8 +9,16 @@ import packed
 from linked import Made
 from plain import files_below, put, write
 from release import Release
+from shipped import HERE, TOOL
 
 BINDINGS = "bindings"
+# Where a shell looks for the completions of the tool below /usr/share, or below the `share` of a folder.
+COMPLETIONS = {"mdb.bash": "bash-completion/completions/mdb", "_mdb": "zsh/vendor-completions/_mdb", "mdb.fish": "fish/vendor_completions.d/mdb.fish"}
+
+
+def completions(share: Path) -> None:
+    for name, to in COMPLETIONS.items():
+        put(HERE / "completions" / name, share / to)
 
 
 def papers(of: Release, folder: Path) -> None:
@@ -29,9 +37,11 @@ def plain_folder(of: Release, made: Made, tree: Path) -> None:
     os.symlink(f"libmdb.so.{of.interface}", tree / "lib/libmdb.so")
     write(tree / "lib/pkgconfig/mdb.pc", of.pkg_config("${pcfiledir}/../.."))
     write(tree / "share/man/man1/mdb.1", of.manual())
+    completions(tree / "share")
     for it in made.programs:
         put(it, tree / "bin" / it.name, 0o755)
-        os.symlink("mdb.1", tree / f"share/man/man1/{it.name}.1")
+        if it.name != TOOL:
+            os.symlink("mdb.1", tree / f"share/man/man1/{it.name}.1")
         for stream in ("stdin", "stdout"):
             if (of.sources / "crates" / it.name / stream).is_file():
                 put(of.sources / "crates" / it.name / stream, share / f"examples/{it.name}.{stream}")

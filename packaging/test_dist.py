@@ -12,8 +12,8 @@ import unittest
 from pathlib import Path
 
 from built import end, file_of
-from plain import Stop
-from shipped import HERE, LIBRARY, PROGRAMS, TARGETS, TOP, interface, is_released, version
+from plain import Stop, put
+from shipped import HERE, LIBRARY, PROGRAMS, SAID, TARGETS, TOP, interface, is_released, version
 
 COPIED = ("include", "bindings", "pages", "LICENSE", "docs", "CHANGES.md")
 LIBRARY_CODE = "unsigned mdb_abi(void) { return 3; }\nvoid *rattle_alloc(unsigned long, unsigned long);\nvoid *mdb_take(void) { return rattle_alloc(1, 1); }\n"
@@ -44,6 +44,8 @@ class MadeUp(unittest.TestCase):
             copy = shutil.copytree if (TOP / it).is_dir() else shutil.copy
             ignored = {"ignore": shutil.ignore_patterns("out", "target", "__pycache__")} if (TOP / it).is_dir() else {}
             copy(TOP / it, cls.checkout / it, **ignored)
+        for it in (it for it in SAID if not (cls.checkout / it).is_file()):
+            put(TOP / it, cls.checkout / it)
         (cls.checkout / "crates.txt").write_text("mdb_c staticlib:\n")
         changes = cls.checkout / "CHANGES.md"
         changes.write_text(f"# Changes\n\n## {version(TOP)}\n\n- First.\n")
