@@ -54,6 +54,10 @@ def rust(built: Built) -> list[Command]:
     return [command("cargo", *it, folder=BINDINGS / "rust", **variables) for it in words]
 
 
+def languages(built: Built) -> list[Command]:
+    return [command("make", "-B", "-C", TOP / "examples" / it, "test", f"MDB={built.library}") for it in ("node", "java")]
+
+
 def cases(built: Built) -> list[Command]:
     return [command(built.python, CHECKS / f"{it}.py", built.program(f"mdb_{it}")) for it in ("fleet", "proxy")]
 
@@ -135,6 +139,7 @@ PARTS = {
         Part("python", "the binding for Python", ("python pytest",), (LIBRARY, "mdb_script"), python),
         Part("go", "the binding for Go", ("go",), (LIBRARY,), go),
         Part("rust", "the binding for Rust", ("cargo",), (LIBRARY,), rust),
+        Part("languages", "the examples for Node and Java", ("make", "gcc", "node", "/usr/include/node/node_api.h", "javac", "/usr/share/java/jna.jar"), (LIBRARY,), languages),
         Part("cases", "cases of replica sets and of shares", (), ("mdb_fleet", "mdb_proxy"), cases),
         Part("judges", "changed logs and recordings, against plain definitions", ("/usr/share/gocode/src/go.mongodb.org/mongo-driver",), ("mdb_script", "mdb_auditor", "mdb_recorded"), judges),
         Part("storm", "failovers in made-up time, with sanitizers", (), (LIBRARY,), storm),
