@@ -2,6 +2,8 @@
 
 from __future__ import annotations
 
+from .values import DocumentFault
+
 
 class MdbError(Exception):
     """A call was not done, and nothing changed. `status` is the number of include/mdb.h."""
@@ -51,7 +53,31 @@ class BadRecords(MdbError, ValueError):
     status = 7
 
 
-_BY_STATUS = {error.status: error for error in (NoMemory, Malformed, NoRoom, Closed, Opened, NoEntry, BadRecords)}
+class BadDocument(MdbError, ValueError):
+    """A document is none that may be taken."""
+
+    status = 8
+
+    def __init__(self, fault: DocumentFault, place: int, field: str) -> None:
+        super().__init__(f"the document is bad ({fault.name}) at {field or f'byte {place}'}")
+        self.fault = fault
+        """What is bad."""
+        self.place = place
+        """The number of the bad byte, from 0; of FIELD 0."""
+        self.field = field
+        """Of FIELD its name, and else no text."""
+
+    def __reduce__(self) -> tuple[type["BadDocument"], tuple[DocumentFault, int, str]]:
+        return BadDocument, (self.fault, self.place, self.field)
+
+
+class Unspelled(MdbError):
+    """No line can spell what the last step told of, such as a tag with a space in a document."""
+
+    status = 9
+
+
+_BY_STATUS: dict[int, type[MdbError]] = {error.status: error for error in (NoMemory, Malformed, NoRoom, Closed, Opened, NoEntry, BadRecords, Unspelled)}
 
 
 def check(status: int, what: object = "") -> None:

@@ -2,9 +2,9 @@
 
 from __future__ import annotations
 
-import ctypes
 from ctypes import byref, c_size_t, c_uint32, c_uint64, create_string_buffer
 from dataclasses import dataclass
+from typing import Any
 
 from ._library import LIBRARY, MemberNumbers
 from .errors import NoEntry, NoRoom, check
@@ -79,7 +79,7 @@ class Fleet:
                 return out.raw[: needed.value].decode("ascii").strip()
             out = create_string_buffer(needed.value)
 
-    def _changes(self, call: ctypes._CFuncPtr, member: int) -> bool:
+    def _changes(self, call: Any, member: int) -> bool:
         changed = c_uint32()
         check(call(self._members, self._count, number(member, 32), byref(changed)), member)
         return bool(changed.value)

@@ -3,7 +3,7 @@
 from __future__ import annotations
 
 from ctypes import byref, c_size_t, create_string_buffer
-from typing import Iterable
+from typing import Any, Iterable
 
 from ._library import LIBRARY
 from .errors import BadRecords, NoRoom, check
@@ -35,7 +35,7 @@ def rescan_seconds(accepted: int, ttl: int, heartbeat: int) -> int:
     return LIBRARY.mdb_srv_rescan(number(accepted, 32), number(ttl, 32), number(heartbeat, 64))
 
 
-def _text(call, name: bytes, *values) -> str:
+def _text(call: Any, name: bytes, *values: Any) -> str:
     words = [it for value in values for it in ((value, len(value)) if isinstance(value, bytes) else (value,))]
     out, needed = create_string_buffer(1024), c_size_t()
     while True:

@@ -4,6 +4,7 @@ from __future__ import annotations
 
 from dataclasses import dataclass
 from enum import IntEnum
+from typing import NamedTuple
 
 
 class Kind(IntEnum):
@@ -59,6 +60,77 @@ class Why(IntEnum):
     NOT_CHECKING = 11
     WRONG_MODE = 12
     EXHAUSTED = 13
+
+
+class Exhausted(IntEnum):
+    """Which number would pass its limit, where a step was refused as EXHAUSTED."""
+
+    POOL = 1
+    GENERATION = 2
+    MONITOR = 3
+    SERVERS = 4
+
+
+class CloseReason(IntEnum):
+    """Why a connection was closed (CMAP, "ConnectionClosedEvent")."""
+
+    STALE = 1
+    IDLE = 2
+    ERROR = 3
+    DROPPED = 4
+    POOL_CLOSED = 5
+
+
+class FailReason(IntEnum):
+    """Why a check-out failed (CMAP, "ConnectionCheckOutFailedEvent")."""
+
+    TIMEOUT = 1
+    CONNECTION_ERROR = 2
+
+
+class PoolState(IntEnum):
+    """The state of a pool (CMAP, "Connection Pool")."""
+
+    NEW = 1
+    READY = 2
+    PAUSED = 3
+    CLOSED = 4
+
+
+class Cause(IntEnum):
+    """Why a pool is cleared."""
+
+    NETWORK = 0
+    NETWORK_TIMEOUT = 1
+    """The connections in use are interrupted."""
+    OTHER = 2
+
+
+class DocumentFault(IntEnum):
+    """What is bad in a document."""
+
+    SIZE = 1
+    """It has more bytes than a document may have."""
+    SHORT = 2
+    """The bytes end within a value."""
+    LENGTH = 3
+    """A length counts too little, or more bytes than there are."""
+    ZERO = 4
+    """There is no zero byte where a name, a text or a document ends."""
+    UTF8 = 5
+    """A name or a text is not UTF-8."""
+    BOOL = 6
+    """A truth value is neither 0 nor 1."""
+    TYPE = 7
+    """There is no such type."""
+    DEPTH = 8
+    """Too many documents stand within one another."""
+    PAST = 9
+    """An element passes the end of its document."""
+    TRAILING = 10
+    """Bytes stand behind the document."""
+    FIELD = 11
+    """A field has another type, or is absent and has to be there."""
 
 
 class Use(IntEnum):
@@ -172,23 +244,71 @@ class Text(IntEnum):
     REPLY = 11
 
 
-@dataclass(frozen=True)
-class Connection:
+class Connection(NamedTuple):
     """A connection, by the number of its pool and its own."""
 
     pool: int
     id: int
 
 
-@dataclass(frozen=True)
-class Reply:
-    """What the one who makes a step is told. A number that the kind does not have is 0."""
+class Fact(NamedTuple):
+    """What became true by a step. A number that the kind does not have is 0."""
+
+    kind: FactKind
+    event: Event
+    """Of POOL and SDAM."""
+    pool: int
+    """The number of the pool; of CHECK_NOW, of CANCEL and of events of a server that of the server."""
+    id: int
+    """The connection of GRANTED and of events that name one; of a heartbeat the driver's number of the monitor's connection."""
+    party: int
+    """Of GRANTED and ENDED."""
+    why: int
+    """Of ENDED an End, of CONNECTION_CLOSED a CloseReason, of CHECKOUT_FAILED a FailReason; of a heartbeat 1 where the server answers when something changes."""
+    number: int
+    """The milliseconds of CONNECTION_READY, CHECKED_OUT and CHECKOUT_FAILED; the nanoseconds of a heartbeat that ended; 1 of a POOL_CLEARED that interrupts."""
+    service: str | None
+    """The service behind a load balancer, in 24 hex digits, where the fact names one."""
+    has_pool: bool
+    """Whether `pool` is the number of a pool."""
+
+
+class ToldFact(NamedTuple):
+    """A fact of the last entry with its text; the members that a Fact has are the same."""
+
+    kind: FactKind
+    event: Event
+    pool: int
+    id: int
+    party: int
+    why: int
+    number: int
+    service: str | None
+    has_pool: bool
+    text: str
+    """The whole fact, as an entry's text has it."""
+    address: str | None
+    """The address that it names, if it names one."""
+    before: ServerKind | TopologyKind | None
+    """Of SERVER_CHANGED and TOPOLOGY_CHANGED, the type before the change."""
+    after: ServerKind | TopologyKind | None
+    """The type after it."""
+
+
+class Reply(NamedTuple):
+    """What the one who makes a step is told, and what became true by it. A number that the kind does not have is 0."""
 
     kind: Kind
     pool: int = 0
+    """Of POOLED, ESTABLISHING and JOB."""
     id: int = 0
+    """The connection, of the same three."""
     why: int = 0
+    """Of ENDED an End, of REFUSED a Why."""
     number: int = 0
+    """Of CHANGED 0 or 1, of COUNT the count; of a refusal as TIME_BACK the last moment, as EXHAUSTED an Exhausted."""
+    facts: tuple[Fact, ...] = ()
+    """The facts of the step, in the order in which they became true."""
 
     @property
     def connection(self) -> Connection:
@@ -205,25 +325,24 @@ class Reply:
         """Of REFUSED."""
         return Why(self.why)
 
+    @property
+    def exhausted(self) -> Exhausted:
+        """Of REFUSED as EXHAUSTED."""
+        return Exhausted(self.number)
+
 
 @dataclass(frozen=True)
-class Fact:
-    """A fact of the last entry, with its text. A number that the kind does not have is 0."""
+class PoolCounts:
+    """What a pool has."""
 
-    kind: FactKind
-    event: Event
-    pool: int
-    id: int
-    party: int
-    why: int
     number: int
-    text: str
-    address: str | None = None
-    """The address that it names, if it names one."""
-    before: ServerKind | TopologyKind | None = None
-    """Of SERVER_CHANGED and TOPOLOGY_CHANGED, the type before the change."""
-    after: ServerKind | TopologyKind | None = None
-    """The type after it."""
+    state: PoolState
+    generation: int
+    """How often it was cleared as a whole (CMAP, "Generation")."""
+    available: int
+    """How many connections nobody has."""
+    has_job: bool | None
+    """Of a driver's pool, whether a pending connection waits for a worker who claims it; of a pool that stands alone None."""
 
 
 @dataclass(frozen=True)

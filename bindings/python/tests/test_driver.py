@@ -267,7 +267,7 @@ def test_a_call_within_a_call_keeps_its_own_reply():
         inner = []
 
         def traced(frame, event, _argument):
-            if frame.f_code.co_name in ("_step", "_text", "_facts", "_reply") and event in ("line", "return"):
+            if frame.f_code.co_name in ("request", "step", "_done", "reply_of", "fact_of") and event in ("line", "return"):
                 inner.append(driver.return_(2, 99).refusal)
             return traced
 
