@@ -8,7 +8,7 @@ from ._held import Held
 from ._library import LIBRARY, PoolOptionsNumbers, PoolStateNumbers
 from ._steps import pool_steps
 from .errors import check
-from .numbers import number
+from .numbers import number as fitting
 from .values import Cause, Fact, PoolCounts, PoolState, Reply, Use
 
 
@@ -29,18 +29,18 @@ class Pool(Held):
         max_idle: int = 0,
         max_wait: int = 0,
         load_balanced: bool = False,
-        number_: int = 0,
+        number: int = 0,
     ) -> None:
         """Opens a pool, which is new, or ready behind a load balancer (CMAP, "Connection Pool Options").
 
         Sizes are up to 65535; `max_idle` is after how many milliseconds an available connection is closed and `max_wait` for how many a caller may wait,
-        0 for no limit; `number_` is what replies and facts have as the pool's number. Raises Malformed where a size is beyond its limits.
+        0 for no limit; `number` is what replies and facts have as the pool's number. Raises Malformed where a size is beyond its limits.
         """
         super().__init__(LIBRARY.mdb_pool_free)
         self._steps = pool_steps(self._slot)
         self._return = getattr(self._steps, "return")
-        sizes = [number(it, 32) for it in (number_, max_size, min_size, max_connecting)]
-        options = PoolOptionsNumbers(number(max_idle, 64), number(max_wait, 64), *sizes, int(load_balanced))
+        sizes = [fitting(it, 32) for it in (number, max_size, min_size, max_connecting)]
+        options = PoolOptionsNumbers(fitting(max_idle, 64), fitting(max_wait, 64), *sizes, int(load_balanced))
         check(LIBRARY.mdb_pool_open(byref(self._slot), byref(options)), sizes)
 
     def free(self) -> None:

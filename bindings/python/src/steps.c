@@ -191,7 +191,7 @@ static PyObject *driver_line(PyObject *self, PyObject *args) {
     mdb_told told;
     if (!PyArg_ParseTuple(args, "O&O&", narrow, &seat, text, &line)) return NULL;
     mdb_status status = calls.line_told(slot_of(self), seat, line.at, line.len, &told);
-    PyObject *reply = status == MDB_OK ? done(self, status, "line", &told, facts_of_driver) : raised(status, line.held);
+    PyObject *reply = status == MDB_OK ? done(self, status, "line", &told, facts_of_driver) : raised(status, PyTuple_GetItem(args, 1));
     text(NULL, &line);
     return reply;
 }
