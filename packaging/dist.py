@@ -13,6 +13,7 @@ from __future__ import annotations
 import argparse
 import os
 import shutil
+import sysconfig
 import tempfile
 from pathlib import Path
 
@@ -29,7 +30,7 @@ from shipped import BUILT, DIST, LIBRARY, TARGETS, TOP, Target, interface, is_re
 
 
 def tools_for(targets: list[Target]) -> dict[str, str]:
-    tools = {"git": "git", "dpkg-deb": "dpkg"}
+    tools = {"git": "git", "dpkg-deb": "dpkg", str(Path(sysconfig.get_paths()["include"]) / "Python.h"): "libpython3-dev"}
     for it in targets:
         of_gcc = "gcc" if it.cpu == os.uname().machine else f"gcc-{it.multiarch.replace('_', '-')}"
         tools |= {it.tool("gcc"): of_gcc, it.tool("objcopy"): of_gcc.replace("gcc", "binutils", 1), str(it.musl / "libc.a"): f"musl-dev:{it.debian}"}

@@ -1,6 +1,8 @@
 """The libraries and the programs of a release, made of what was built."""
 from __future__ import annotations
 
+import os
+import sysconfig
 from pathlib import Path
 
 from plain import put, run, write
@@ -51,6 +53,28 @@ def program(target: Target, object_file: Path, heap: Path, room: Path) -> Path:
     return to
 
 
+def python_headers(target: Target, room: Path) -> list[str]:
+    """Where Python.h is: this machine's, whose settings Debian keeps for each processor apart. The stable ABI asks for what all of 64 bits with Linux have alike."""
+    headers = Path(sysconfig.get_paths()["include"])
+    own = Path("/usr/include") / f"{os.uname().machine}-linux-gnu" / headers.name / "pyconfig.h"
+    if not own.is_file():
+        return [f"-I{headers}"]
+    write(room / "python" / target.multiarch / headers.name / "pyconfig.h", own.read_text(encoding="utf-8"))
+    return [f"-I{headers}", f"-I{room / 'python'}"]
+
+
+def python_steps(target: Target, sources: Path, room: Path) -> Path:
+    """The compiled steps of the Python package, for every Python from 3.9 on by the stable ABI. They name no library and no C library."""
+    to, parts = room / "_compiled.abi3.so", []
+    for it in ("steps", "told"):
+        parts.append(room / f"{it}.o")
+        words = ("-std=gnu11", "-DPy_LIMITED_API=0x03090000", f"-I{sources / 'include'}", *python_headers(target, room))
+        compile_c(target, sources / "bindings/python/src" / f"{it}.c", parts[-1], *words)
+    run(target.tool("gcc"), "-shared", "-nostdlib", *LINKING, *parts, "-lgcc", "-o", to)
+    run(target.tool("strip"), "--strip-unneeded", to)
+    return to
+
+
 class Made:
     """All that was linked for a target."""
 
@@ -62,5 +86,6 @@ class Made:
         self.shared, self.debian = room / "libmdb.so", room / "debian.so"
         shared_library(target, self.archive, self.shared, interface)
         shared_library(target, self.archive, self.debian, interface, "-lc")
+        self.python_steps = python_steps(target, sources, room)
         self.assembly = folder / f"{LIBRARY}.s"
         self.programs = [program(target, folder / f"{it}.o", heap, room) for it in PROGRAMS]

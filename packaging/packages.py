@@ -54,12 +54,13 @@ def plain_folder(of: Release, made: Made, tree: Path) -> None:
 
 
 def wheel(of: Release, made: Made, tree: Path) -> None:
-    """The Python package with the library in it. It is for every Python 3.9 and later, and for glibc and musl."""
+    """The Python package with the library and the compiled steps in it. It is for every Python 3.9 and later, and for glibc and musl."""
     info, source = f"mdb-{of.version}.dist-info", of.sources / BINDINGS / "python"
     for it in sorted((source / "mdb").iterdir()):
         if it.suffix == ".py" or it.name == "py.typed":
             put(it, tree / "mdb" / it.name)
     put(made.shared, tree / "mdb/libmdb.so", 0o755)
+    put(made.python_steps, tree / "mdb/_compiled.abi3.so", 0o755)
     head = {"Metadata-Version": "2.1", "Name": "mdb", "Version": of.version, "Summary": "Connection pools and server discovery of a MongoDB driver, proved"}
     head |= {"Requires-Python": ">=3.9", "License": "Apache-2.0", "Description-Content-Type": "text/markdown"}
     metadata = "".join(f"{name}: {value}\n" for name, value in head.items())

@@ -111,7 +111,8 @@ def wheel_tests(of: Packed, room: Room) -> None:
     put(TOP / "checks/cases.py", room.place / "checks/cases.py")
     for it in (TOP / "crates").glob("mdb_checks_*/std*"):
         put(it, room.place / it.relative_to(TOP))
-    said = room.run("python3 -m pytest -q -p no:cacheprovider bindings/python/tests", PYTHONPATH="/try/site", MDB_SCRIPT="/try/x86_64-linux/bin/mdb_script")
+    variables = {"MDB_SCRIPT": "/try/x86_64-linux/bin/mdb_script", "MDB_ARCHIVE": "/try/x86_64-linux/lib/libmdb.a"}
+    said = room.run("python3 -m pytest -q -p no:cacheprovider bindings/python/tests", PYTHONPATH="/try/site", **variables)
     if b" passed" not in said or b"skipped" in said:
         raise Stop(f"not all tests ran: {said.decode().strip().splitlines()[-1]}")
 

@@ -11,14 +11,15 @@ import mdb
 from mdb import _library
 
 HERE = os.path.dirname(os.path.abspath(__file__))
-ARCHIVE = os.path.join(os.path.dirname(os.environ.get("MDB_LIBRARY") or os.path.join(HERE, "..", "..", "out", "libmdb.so")), "libmdb.a")
+LIBRARY = os.environ.get("MDB_LIBRARY") or os.path.join(HERE, "..", "..", "out", "libmdb.so")
+ARCHIVE = os.environ.get("MDB_ARCHIVE") or os.path.join(os.path.dirname(LIBRARY), "libmdb.a")
 
 
 @pytest.fixture(scope="module")
 def library(tmp_path_factory):
     """The library over a heap that refuses."""
     if not os.path.exists(ARCHIVE) or not shutil.which("gcc"):
-        pytest.skip("needs gcc and libmdb.a beside libmdb.so")
+        pytest.skip("needs gcc and libmdb.a: beside libmdb.so, or what MDB_ARCHIVE names")
     to = tmp_path_factory.mktemp("refusing") / "libmdb.so"
     wanted = [f"-Wl,-u,{it}" for it in (*_library._CALLS, "mdb_abi", "mdb_close", "mdb_pool_free", "mdb_srv_rescan")]
     subprocess.run(["gcc", "-shared", "-fPIC", "-O1", *wanted, os.path.join(HERE, "refusing.c"), ARCHIVE, "-o", str(to)], check=True)
