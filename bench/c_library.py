@@ -46,9 +46,9 @@ def this_python(rounds, of_c):
         party = iter(range(1, 1 << 32))
         took = least_of(lambda: by_calls(driver, next(party)), rounds) * 1e6
         print('python: request and return with facts %11.2f us, %.1f times C' % (took, took / of_c), flush=True)
-        print('python: request and return by lines  %12.2f us' % (least_of(lambda: by_lines(driver, next(party)), rounds) * 1e6), flush=True)
+        print('python: request and return by lines  %12.2f us' % (least_of(lambda: by_lines(driver, next(party)), rounds // 5) * 1e6), flush=True)
         for what, one in (('facts with their texts', driver.facts), ('topology', driver.topology), ('servers', driver.servers)):
-            print('python: %-28s %12.2f us' % (what, least_of(one, rounds // 10) * 1e6), flush=True)
+            print('python: %-28s %12.2f us' % (what, least_of(one, rounds // 50) * 1e6), flush=True)
 
 
 def by_calls(driver, party):
@@ -82,7 +82,7 @@ def main():
         of_c = from_c(os.path.abspath(given.library), given.rounds, folder)
     if not os.path.exists(os.path.join(TOP, 'bindings', 'out', 'libmdb.so')):
         return
-    from_python(given.rounds // 5, of_c)
+    from_python(given.rounds, of_c)
     bindings = os.path.join(TOP, 'bindings')
     if shutil.which('go'):
         subprocess.run(['go', 'test', '-run', 'none', '-bench', '.', '-benchtime', '20000x'], cwd=os.path.join(bindings, 'go'))
