@@ -59,18 +59,16 @@ def python_headers(target: Target, room: Path) -> list[str]:
     own = Path("/usr/include") / f"{os.uname().machine}-linux-gnu" / headers.name / "pyconfig.h"
     if not own.is_file():
         return [f"-I{headers}"]
-    write(room / "python" / target.multiarch / headers.name / "pyconfig.h", own.read_text(encoding="utf-8"))
+    write(room / "python" / target.multiarch / headers.name / "pyconfig.h", f'#include "{own}"\n')
     return [f"-I{headers}", f"-I{room / 'python'}"]
 
 
 def python_steps(target: Target, sources: Path, room: Path) -> Path:
     """The compiled steps of the Python package, for every Python from 3.9 on by the stable ABI. They name no library and no C library."""
-    to, parts = room / "_compiled.abi3.so", []
-    for it in ("steps", "told"):
-        parts.append(room / f"{it}.o")
-        words = ("-std=gnu11", "-DPy_LIMITED_API=0x03090000", f"-I{sources / 'include'}", *python_headers(target, room))
-        compile_c(target, sources / "bindings/python/src" / f"{it}.c", parts[-1], *words)
-    run(target.tool("gcc"), "-shared", "-nostdlib", *LINKING, *parts, "-lgcc", "-o", to)
+    to, source = room / "_compiled.abi3.so", sources / "bindings/python/src"
+    compiling = ["-O2", "-fPIC", "-fno-ident", f"-ffile-prefix-map={source}=.", "-std=gnu11", "-DPy_LIMITED_API=0x03090000", f"-I{sources / 'include'}"]
+    parts = [source / f"{it}.c" for it in ("steps", "told")]
+    run(target.tool("gcc"), "-shared", "-nostdlib", *compiling, *python_headers(target, room), *LINKING, *parts, "-lgcc", "-o", to)
     run(target.tool("strip"), "--strip-unneeded", to)
     return to
 

@@ -41,9 +41,8 @@ class Driver(Held):
 
     It opens no socket and reads no clock: it is told what happened, step by step, and each step answers a Reply with the facts that became true by it.
     Moments are in milliseconds, durations of checks in nanoseconds. Any number of threads may share one: `lock` gives it to one call at a time, and can be
-    held around a step and the questions about it. A signal handler or a finalizer may call it too; by ctypes it may then change the facts of the
-    step that it interrupts (README). A number that does not fit the library's raises
-    OverflowError, and the library is not asked. A driver is not copied.
+    held around a step and the questions about it. A signal handler or a finalizer may call it too; by ctypes it may then change the facts of the step that
+    it interrupts. A number that does not fit the library's raises OverflowError, and the library is not asked. A driver is not copied.
     """
 
     def __init__(self, line: str | bytes, seat: int = 0) -> None:
