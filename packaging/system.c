@@ -4,6 +4,7 @@
 #include <signal.h>
 #include <stddef.h>
 #include <stdint.h>
+#include <sys/syscall.h>
 #include <unistd.h>
 
 static size_t count;
@@ -37,6 +38,9 @@ void rattle_set_errno(int32_t to) { errno = to; }
 typedef void (*handler)(int);
 handler __sysv_signal(int number, handler to) { return signal(number, to); }
 ssize_t __write(int file, const void *bytes, size_t n) { return write(file, bytes, n); }
+
+// musl has it from 1.2.4 on.
+__attribute__((weak)) int statx(int folder, const char *path, int flags, unsigned mask, void *to) { return (int)syscall(SYS_statx, folder, path, flags, mask, to); }
 
 #ifdef __x86_64__
 #include <cpuid.h>
