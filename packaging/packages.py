@@ -116,12 +116,30 @@ def without_comments(text: str, cpu: str) -> str:
     return re.sub(r'(?m)[ \t]*(?<!")#[ -].*$' if cpu == "x86_64" else r"(?m)[ \t]*//.*$", "", text)
 
 
+def with_plain_names(text: str) -> str:
+    """Older assemblers read no name with signs such as # and '. Texts of data stay as they are."""
+    plain: dict[str, str] = {}
+    taken: set[str] = set()
+
+    def renamed(found: re.Match[str]) -> str:
+        name = found[1]
+        if name not in plain:
+            made = re.sub(r"[^\w.$]", "_", name)
+            plain[name] = f"{made}.{len(plain)}" if made in taken else made
+            taken.add(plain[name])
+        return plain[name]
+
+    odd = re.compile(r"\"([^\"\n]*[#<>:'][^\"\n]*)\"")
+    lines = text.splitlines(keepends=True)
+    return "".join(it if it.lstrip().startswith((".ascii", ".ident")) else odd.sub(renamed, it) for it in lines)
+
+
 def assembly(of: Release, all_made: list[Made], tree: Path) -> None:
     """One file for every compiler of C: cc prog.c mdb.S heap.c."""
     text, word = f"/* The library of mdb.h, version {of.version}: cc prog.c mdb.S heap.c */\n", "if"
     for made in all_made:
         cpu = made.target.cpu
-        text += f"#{word} defined(__{cpu}__) && defined(__linux__)\n{without_comments(made.assembly.read_text(encoding='utf-8'), cpu)}\n"
+        text += f"#{word} defined(__{cpu}__) && defined(__linux__)\n{with_plain_names(without_comments(made.assembly.read_text(encoding='utf-8'), cpu))}\n"
         word = "elif"
     write(tree / "mdb.S", text + '#else\n#error "mdb.S is for Linux on ' + " and ".join(it.target.cpu for it in all_made) + '"\n#endif\n')
     put(of.sources / "include/mdb.h", tree / "mdb.h")
