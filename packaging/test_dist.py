@@ -206,7 +206,8 @@ class Whole(MadeUp):
     def test_the_same_bytes_in_two_folders(self):
         self.assertEqual(self.dist().returncode, 0)
         first = {it.name: it.read_bytes() for it in self.to.iterdir()}
-        self.assertEqual(len(first), 16)
+        pages = len(list((TOP / "pages").glob("*.html")))
+        self.assertEqual(len(first), len(TARGETS) * len(("folder", "libmdb", "libmdb-dev", "mdb-tools", "wheel")) + len(("rust", "go", "assembly")) + pages + len(("manifest", "sums")))
         self.assertIn(f"mdb-{version(TOP)}-x86_64-linux.tar.gz", first)
         self.to = self.room / "another" / "folder" / "dist"
         self.assertEqual(self.dist(TMPDIR=str(self.room), TZ="Asia/Tokyo").returncode, 0)
@@ -219,7 +220,7 @@ class Whole(MadeUp):
         self.assertEqual({it: page[it] for it in wanted}, wanted)
         self.assertEqual(page["gate"], {"passed": 1, "verdicts": {"mdb_c": "logic=proved functions=1"}})
         self.assertEqual({cpu: set(of_cpu) for cpu, of_cpu in page["built"].items()}, {it.cpu: {LIBRARY, *PROGRAMS} for it in TARGETS})
-        self.assertEqual(set(page["sources"]), {"crates.txt", "include", "bindings", "pages"})
+        self.assertEqual(set(page["sources"]), {"crates.txt", "crates/mdb_commands", "include", "bindings", "pages"})
         sums = {name: total for total, name in (it.split("  ") for it in (self.to / "SHA256SUMS").read_text().splitlines())}
         self.assertEqual({**page["files"], "MANIFEST.json": sums["MANIFEST.json"]}, sums)
         self.assertEqual(set(sums), {it.name for it in self.to.iterdir()} - {"SHA256SUMS"})
