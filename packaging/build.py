@@ -23,9 +23,9 @@ from built import begin, end, file_of, made_of
 from plain import Stop, ends_well, last_line, run
 from shipped import BUILT, LIBRARY, PROGRAMS, TARGETS, TOP, Target
 
-# A clang that also keeps what it is given, as $ROOM says: the module, or the text of the assembler that was made of it, and each call's words.
+# A clang that also keeps what it is given, as $ROOM says: the module, as it is or rewritten, or the text of the assembler that was made of it, and each call's words.
 KEEPING = """#!/bin/sh
-for it in module.bc module.s; do
+for it in module.bc rewritten.ll module.s; do
     [ -f "$it" ] && cp "$it" {room}/
 done
 echo "$@" >> {room}/calls
@@ -53,7 +53,7 @@ def assembly(kit: Path, room: Path, to: Path) -> None:
         shutil.copyfile(room / "module.s", to)
         return
     calls = [it.split() for it in (room / "calls").read_text().splitlines()]
-    words = next(it for it in reversed(calls) if "-c" in it and "module.bc" in it)
+    words = next(it for it in reversed(calls) if "-c" in it and "module.o" in it)
     words = ["-S" if it == "-c" else str(to) if it == "module.o" else it for it in words]
     run(kit / "toolchain" / "bin" / "clang", *words, "-fno-addrsig", "-fno-verbose-asm", cwd=room)
 
