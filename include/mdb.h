@@ -601,6 +601,14 @@ mdb_status mdb_pool_clear(mdb_pool_slot *slot, const mdb_at *at, uint32_t cause,
 mdb_status mdb_pool_maintain(mdb_pool_slot *slot, const mdb_at *at, mdb_told *told);
 mdb_status mdb_pool_expire(mdb_pool_slot *slot, const mdb_at *at, mdb_told *told);
 
+/* When time changes something in the pool, unless another step comes before: the first moment from `moment` on. MDB_NO_ENTRY where no time brings it to that.
+ * It may be another after each step. No step. */
+mdb_status mdb_pool_next_due(mdb_pool_slot *slot, uint64_t moment, uint64_t *due);
+
+/* The step of the timer that changes something at the moment, the expiry before the maintenance. MDB_NO_ENTRY where neither does, and no step is done. So all
+ * that is due is done by calls until one does not tell MDB_DONE; a moment before that of the last accepted step is refused, each time. */
+mdb_status mdb_pool_tick(mdb_pool_slot *slot, const mdb_at *at, mdb_told *told);
+
 /* The pool is closed for good (CMAP, "Closing a Connection Pool"): what waits ends, and what is in use is closed as it comes back. */
 mdb_status mdb_pool_close(mdb_pool_slot *slot, const mdb_at *at, mdb_told *told);
 
@@ -612,6 +620,9 @@ mdb_status mdb_pool_facts(mdb_pool_slot *slot, mdb_fact *out, size_t room, size_
 typedef struct mdb_pool_state {
     uint64_t generation; /* how often it was cleared as a whole */
     uint64_t available;  /* how many connections nobody has */
+    uint64_t in_use;     /* how many live that are neither available nor pending: a party has one since it was established, or it stays at a pin */
+    uint64_t pending;    /* how many are not established yet */
+    uint64_t waiting;    /* how many callers wait in the queue */
     uint32_t number;
     uint32_t state;      /* MDB_POOL_IS_NEW .. */
 } mdb_pool_state;

@@ -230,6 +230,14 @@ func (p *Pool) Expire(moment uint64, facts []PoolFact) (Reply, []PoolFact, error
 	return p.ended("expire", C.mdb_pool_expire(&p.slot, &p.at, &p.told), facts)
 }
 
+// Tick is the step of the timer that changes something at the moment, Expire before Maintain, and the error is NoEntry where neither does. So all that is
+// due is done by calls until one answers an error or another reply than Done.
+func (p *Pool) Tick(moment uint64, facts []PoolFact) (Reply, []PoolFact, error) {
+	p.begin(moment)
+	defer p.turn.Unlock()
+	return p.ended("tick", C.mdb_pool_tick(&p.slot, &p.at, &p.told), facts)
+}
+
 // Close is the step: the pool is closed for good. What waits ends, and what is in use is closed as it comes back. Its memory stays until Free.
 func (p *Pool) Close(moment uint64, facts []PoolFact) (Reply, []PoolFact, error) {
 	p.begin(moment)
@@ -251,6 +259,9 @@ const (
 type PoolState struct {
 	Generation uint64 // how often it was cleared as a whole
 	Available  uint64 // how many connections nobody has
+	InUse      uint64 // how many live that are neither available nor pending
+	Pending    uint64 // how many are not established yet
+	Waiting    uint64 // how many callers wait in the queue
 	Number     uint32
 	Phase      PoolPhase
 }
@@ -263,7 +274,22 @@ func (p *Pool) State() (PoolState, error) {
 	if err := named("state", C.mdb_pool_get(&p.slot, &s)); err != nil {
 		return PoolState{}, err
 	}
-	return PoolState{uint64(s.generation), uint64(s.available), uint32(s.number), PoolPhase(s.state)}, nil
+	return PoolState{
+		uint64(s.generation), uint64(s.available), uint64(s.in_use), uint64(s.pending), uint64(s.waiting), uint32(s.number), PoolPhase(s.state),
+	}, nil
+}
+
+// NextDue is when time changes something in the pool unless another step comes before: the first moment from the given one on, and false where no time
+// brings it to that. It may be another after each step, and is none itself.
+func (p *Pool) NextDue(moment uint64) (uint64, bool, error) {
+	p.turn.Lock()
+	defer p.turn.Unlock()
+	var due C.uint64_t
+	status := C.mdb_pool_next_due(&p.slot, C.uint64_t(moment), &due)
+	if status == C.MDB_NO_ENTRY {
+		return 0, false, nil
+	}
+	return uint64(due), status == C.MDB_OK, named("next due", status)
 }
 
 // Generation is how often the pool was cleared for the service, or as a whole where it is empty. It is no step.

@@ -67,7 +67,7 @@ func TestPoolAlone(t *testing.T) {
 		t.Fatal(err)
 	}
 	wants(t, facts, EventPoolCleared)
-	if state, err := p.State(); err != nil || state != (PoolState{Generation: 1, Number: 7, Phase: PoolIsPaused}) {
+	if state, err := p.State(); err != nil || state != (PoolState{Generation: 1, InUse: 1, Number: 7, Phase: PoolIsPaused}) {
 		t.Fatal(state, err)
 	}
 	_, facts, err = p.Return(30, 1, Used, nil)
@@ -226,5 +226,37 @@ func BenchmarkPool(b *testing.B) {
 	b.ResetTimer()
 	for n := 0; n < b.N; n++ {
 		round(uint32(n) + 1)
+	}
+}
+
+// What is due is told before, done at its moment and not earlier, and the callers that wait are counted.
+func TestPoolTimers(t *testing.T) {
+	p := readyPool(t, PoolOptions{Number: 7, MaxSize: 1, MaxWait: 50})
+	defer p.Free()
+	if _, found, err := p.NextDue(1); err != nil || found {
+		t.Fatal(found, err)
+	}
+	for party := uint32(1); party <= 2; party++ {
+		if _, _, err := p.Request(uint64(10*party), party, nil); err != nil {
+			t.Fatal(err)
+		}
+	}
+	s, err := p.State()
+	if err != nil || s != (PoolState{Pending: 1, Waiting: 1, Number: 7, Phase: PoolIsReady}) {
+		t.Fatal(s, err)
+	}
+	if due, found, err := p.NextDue(20); err != nil || !found || due != 70 {
+		t.Fatal(due, found, err)
+	}
+	if _, _, err := p.Tick(69, nil); !errors.Is(err, NoEntry) {
+		t.Fatal(err)
+	}
+	r, facts, err := p.Tick(70, nil)
+	if err != nil || r.Kind != Done {
+		t.Fatal(r, err)
+	}
+	wants(t, facts, EventCheckOutFailed)
+	if s, err = p.State(); err != nil || s.Waiting != 0 || s.Pending != 1 {
+		t.Fatal(s, err)
 	}
 }

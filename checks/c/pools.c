@@ -10,7 +10,7 @@
 
 _Static_assert(sizeof(mdb_pool_slot) == 16, "a slot has 16 bytes");
 _Static_assert(sizeof(mdb_pool_options) == 40, "options have 40 bytes");
-_Static_assert(sizeof(mdb_pool_state) == 24, "a state has 24 bytes");
+_Static_assert(sizeof(mdb_pool_state) == 48, "a state has 48 bytes");
 
 #define CHECK(what) do { if (!(what)) { fprintf(stderr, "line %d: %s\n", __LINE__, #what); exit(1); } } while (0)
 #define AT(moment) &(mdb_at){moment, 3}
@@ -143,6 +143,30 @@ static mdb_pool_state state(void) {
     return it;
 }
 
+// How many connections are available, in use and pending, and how many callers wait.
+static void has(uint64_t available, uint64_t in_use, uint64_t pending, uint64_t waiting) {
+    mdb_pool_state it = state();
+    CHECK(it.available == available && it.in_use == in_use && it.pending == pending && it.waiting == waiting);
+}
+
+// From the moment on something is due then, or nothing where it is 0; the question changes nothing and asks for no memory.
+static void due(uint64_t moment, uint64_t when) {
+    struct before then = before();
+    long calls = asked;
+    uint64_t it = 77;
+    mdb_status status = mdb_pool_next_due(&slot, moment, &it);
+    CHECK(when ? status == MDB_OK && it == when : status == MDB_NO_ENTRY && it == 77);
+    CHECK(asked == calls);
+    unchanged(&then);
+}
+
+// Nothing is due at the moment, and the call changes nothing.
+static void no_tick(uint64_t moment) {
+    struct before then = before();
+    CHECK(mdb_pool_tick(&slot, AT(moment), &told) == MDB_NO_ENTRY);
+    unchanged(&then);
+}
+
 static void open_pool(const mdb_pool_options *options) {
     mdb_status status = mdb_pool_open(&slot, options);
     if (status == MDB_NO_MEMORY) {
@@ -154,12 +178,13 @@ static void open_pool(const mdb_pool_options *options) {
 
 // Each call answers so at a closed slot, and writes nothing.
 static void closed_slot(void) {
-    mdb_pool_state it = {7, 7, 7, 7}, same = it;
+    mdb_pool_state it = {7, 7, 7, 7, 7, 7, 7}, same = it;
     mdb_fact fact = {.kind = 77};
     size_t count = 9;
-    uint64_t generation = 9;
+    uint64_t generation = 9, due_at = 9;
     memset(&told, 77, sizeof told);
     kept = told;
+    CHECK(mdb_pool_next_due(&slot, 1, &due_at) == MDB_CLOSED && due_at == 9 && mdb_pool_tick(&slot, AT(1), &told) == MDB_CLOSED);
     CHECK(mdb_pool_request(&slot, AT(1), 1, &told) == MDB_CLOSED && mdb_pool_warm(&slot, AT(1), 1, &told) == MDB_CLOSED);
     CHECK(mdb_pool_collect(&slot, AT(1), 1, &told) == MDB_CLOSED && mdb_pool_give_up(&slot, AT(1), 1, &told) == MDB_CLOSED);
     CHECK(mdb_pool_return(&slot, AT(1), 1, MDB_USE_OK, &told) == MDB_CLOSED && mdb_pool_return(&slot, AT(1), 1, 4, &told) == MDB_MALFORMED);
@@ -208,9 +233,14 @@ static void check_outs(void) {
     CHECK(told.count == 0);
     STEP(mdb_pool_request(&slot, AT(4), 3, &told));
     replies(MDB_ESTABLISHING, 2, 0);
+    has(0, 0, 2, 0);
+    due(5, 0);
     STEP(mdb_pool_request(&slot, AT(5), 4, &told)); // both connections of the pool are pending
     replies(MDB_WAITING, 0, 0);
     events(1, MDB_CHECKOUT_STARTED);
+    has(0, 0, 2, 1);
+    due(5, 55); // it may wait for 50
+    due(60, 60);
     STEP(mdb_pool_request(&slot, AT(4), 5, &told));
     replies(MDB_REFUSED, 0, MDB_WHY_TIME_BACK);
     CHECK(told.reply.number == 5);
@@ -234,7 +264,9 @@ static void connections(void) {
     STEP(mdb_pool_established(&slot, AT(8), 1, NO_SERVICE, &told));
     events(2, MDB_CONNECTION_READY, MDB_CHECKED_OUT);
     CHECK(fact_of(MDB_FACT_POOL, MDB_CONNECTION_READY).number == 5 && fact_of(MDB_FACT_POOL, MDB_CHECKED_OUT).number == 5);
+    has(0, 1, 1, 1);
     STEP(mdb_pool_failed(&slot, AT(9), 2, NO_SERVICE, &told)); // the caller that waits gets the room
+    has(0, 1, 1, 0);
     events(3, MDB_CONNECTION_CLOSED, MDB_CHECKOUT_FAILED, MDB_CONNECTION_CREATED);
     CHECK(fact_of(MDB_FACT_POOL, MDB_CONNECTION_CLOSED).why == MDB_CLOSED_ERROR && fact_of(MDB_FACT_ENDED, 0).party == 3);
     STEP(mdb_pool_failed(&slot, AT(9), 2, NO_SERVICE, &told));
@@ -262,7 +294,8 @@ static void pins(void) {
     STEP(mdb_pool_pin(&slot, AT(12), 2, &told));
     replies(MDB_REFUSED, 0, MDB_WHY_PIN_STATE);
     STEP(mdb_pool_return(&slot, AT(12), 2, MDB_USE_OK, &told)); // it goes to its pin
-    CHECK(told.count == 0 && state().available == 1);
+    CHECK(told.count == 0);
+    has(1, 1, 0, 0); // what stays at its pin is in use
     STEP(mdb_pool_replicate(&slot, AT(13), 1, &told));
     STEP(mdb_pool_replicate(&slot, AT(13), 3, &told));
     replies(MDB_REFUSED, 0, MDB_WHY_UNPINNED);
@@ -326,6 +359,64 @@ static void timers(void) {
     events(1, MDB_CHECKOUT_FAILED);
     CHECK(fact_of(MDB_FACT_POOL, MDB_CHECKOUT_FAILED).why == MDB_FAILED_TIMEOUT && fact_of(MDB_FACT_POOL, MDB_CHECKOUT_FAILED).number == 50);
     CHECK(fact_of(MDB_FACT_ENDED, 0).party == 12 && fact_of(MDB_FACT_ENDED, 0).why == MDB_END_TIMED_OUT);
+}
+
+// The same timers by what is due: nothing is done before its moment, all of it then, and the moment tells when.
+static void ticks(void) {
+    mdb_pool_options options = MDB_POOL_OPTIONS_INIT;
+    options.number = 7;
+    options.max_size = options.min_size = 2;
+    options.max_idle = 100;
+    options.max_wait = 50;
+    open_pool(&options);
+    due(1, 0); // a new pool is not filled
+    no_tick(1);
+    STEP(mdb_pool_ready(&slot, AT(1), &told));
+    due(1, 1);
+    due(5, 5);
+    STEP(mdb_pool_tick(&slot, AT(1), &told));
+    replies(MDB_DONE, 0, 0);
+    events(2, MDB_CONNECTION_CREATED, MDB_CONNECTION_CREATED);
+    due(1, 0);
+    no_tick(1);
+    STEP(mdb_pool_established(&slot, AT(2), 1, NO_SERVICE, &told));
+    STEP(mdb_pool_established(&slot, AT(4), 2, NO_SERVICE, &told));
+    due(4, 102); // the first has been idle for 100 then
+    no_tick(101);
+    STEP(mdb_pool_request(&slot, AT(10), 1, &told));
+    STEP(mdb_pool_request(&slot, AT(10), 2, &told));
+    due(10, 0);
+    STEP(mdb_pool_request(&slot, AT(20), 3, &told));
+    due(20, 70);
+    STEP(mdb_pool_request(&slot, AT(40), 4, &told));
+    has(0, 2, 0, 2);
+    due(40, 70);
+    STEP(mdb_pool_return(&slot, AT(50), 1, MDB_USE_OK, &told)); // the third has its connection
+    due(50, 90);
+    no_tick(89);
+    STEP(mdb_pool_tick(&slot, AT(90), &told));
+    replies(MDB_DONE, 0, 0);
+    events(1, MDB_CHECKOUT_FAILED);
+    CHECK(fact_of(MDB_FACT_ENDED, 0).party == 4 && fact_of(MDB_FACT_ENDED, 0).why == MDB_END_TIMED_OUT);
+    no_tick(90);
+    STEP(mdb_pool_return(&slot, AT(95), 2, MDB_USE_OK, &told));
+    STEP(mdb_pool_return(&slot, AT(100), 3, MDB_USE_OK, &told));
+    due(100, 195);
+    STEP(mdb_pool_tick(&slot, AT(195), &told)); // one is closed, and another takes its place
+    events(2, MDB_CONNECTION_CLOSED, MDB_CONNECTION_CREATED);
+    has(1, 0, 1, 0);
+    due(195, 200);
+    STEP(mdb_pool_clear(&slot, AT(196), MDB_CAUSE_OTHER, NO_SERVICE, &told));
+    due(1, 1); // a stale one may go at any moment
+    STEP(mdb_pool_tick(&slot, AT(1), &told));
+    replies(MDB_REFUSED, 0, MDB_WHY_TIME_BACK);
+    CHECK(told.count == 0 && told.reply.number == 196);
+    STEP(mdb_pool_tick(&slot, AT(196), &told));
+    events(1, MDB_CONNECTION_CLOSED);
+    CHECK(fact_of(MDB_FACT_POOL, MDB_CONNECTION_CLOSED).why == MDB_CLOSED_STALE);
+    due(196, 0);
+    no_tick(1000);
+    mdb_pool_free(&slot);
 }
 
 // A close (CMAP, "Closing a Connection Pool"): what waits and what is pending ends, and PoolClosed comes last. What is in use is closed as it comes back.
@@ -413,6 +504,7 @@ static void run(void) {
     mdb_pool_free(&slot);
     mdb_pool_free(&slot);
     closed_slot();
+    ticks();
     filled();
     load_balanced();
     CHECK(live == 0);

@@ -14,3 +14,4 @@ pub mod Documents
 pub mod PoolOpening
 pub mod PoolSteps
 pub mod PoolStates
+pub mod PoolDues

@@ -24,6 +24,7 @@ mod next_checks;
 mod outcomes;
 mod pool_callers;
 mod pool_causes;
+mod pool_dues;
 mod pool_opening;
 mod pool_pins;
 mod pool_state_numbers;

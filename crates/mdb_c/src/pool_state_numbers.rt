@@ -23,6 +23,12 @@ pub struct PoolStateNumbers {
     pub generation: u64,
     /// How many connections nobody has.
     pub available: u64,
+    /// How many connections are in use: they are neither available nor pending.
+    pub in_use: u64,
+    /// How many connections are not established yet.
+    pub pending: u64,
+    /// How many callers wait in the queue.
+    pub waiting: u64,
     /// The number that replies and facts have of the pool.
     pub number: u32,
     /// Whether it may be used, from 1: it is new, ready, paused or closed.
@@ -46,6 +52,9 @@ fn numbers_of_state(session: &PoolSession) -> PoolStateNumbers
     PoolStateNumbers {
         generation: session.generation(None),
         available: session.available() as u64,
+        in_use: session.in_use() as u64,
+        pending: session.pending() as u64,
+        waiting: session.waiting() as u64,
         number: session.number(),
         state: state_number(session),
     }
