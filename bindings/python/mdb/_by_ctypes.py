@@ -57,6 +57,7 @@ POOL = {
     "ready": (),
     "clear": ("narrow", "text"),
     "maintain": (),
+    "tick": (),
     "expire": (),
     "close": (),
 }

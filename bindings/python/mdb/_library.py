@@ -125,7 +125,11 @@ class PoolOptionsNumbers(Structure):
 
 
 class PoolStateNumbers(Structure):
-    _fields_ = [("generation", c_uint64), ("available", c_uint64), ("number", c_uint32), ("state", c_uint32)]
+    _fields_ = [
+        *((name, c_uint64) for name in ("generation", "available", "in_use", "pending", "waiting")),
+        ("number", c_uint32),
+        ("state", c_uint32),
+    ]
 
 
 class DriverPoolNumbers(Structure):
@@ -220,6 +224,8 @@ _CALLS = {
     "mdb_pool_ready": [_SLOT, _AT, _TOLD],
     "mdb_pool_clear": [_SLOT, _AT, c_uint32, *_IN, _TOLD],
     "mdb_pool_maintain": [_SLOT, _AT, _TOLD],
+    "mdb_pool_tick": [_SLOT, _AT, _TOLD],
+    "mdb_pool_next_due": [_SLOT, c_uint64, POINTER(c_uint64)],
     "mdb_pool_expire": [_SLOT, _AT, _TOLD],
     "mdb_pool_close": [_SLOT, _AT, _TOLD],
     "mdb_pool_facts": _FACTS,

@@ -7,7 +7,7 @@ from ctypes import byref, c_uint64
 from ._held import Held
 from ._library import LIBRARY, PoolOptionsNumbers, PoolStateNumbers
 from ._steps import pool_steps
-from .errors import check
+from .errors import NoEntry, check
 from .numbers import number as fitting
 from .values import Cause, Fact, PoolCounts, PoolState, Reply, Use
 
@@ -135,6 +135,11 @@ class Pool(Held):
         with self.lock:
             return self._steps.expire(moment, seat)
 
+    def tick(self, moment: int, seat: int = 0) -> Reply:
+        """The step of the timer that changes something at the moment, the expiry before the maintenance. Raises NoEntry where neither does."""
+        with self.lock:
+            return self._steps.tick(moment, seat)
+
     def close(self, moment: int, seat: int = 0) -> Reply:
         """The pool is closed for good (CMAP, "Closing a Connection Pool"): what waits ends, and what is in use is closed as it comes back."""
         with self.lock:
@@ -152,7 +157,17 @@ class Pool(Held):
         told = PoolStateNumbers()
         with self.lock:
             check(LIBRARY.mdb_pool_get(byref(self._slot), byref(told)))
-        return PoolCounts(told.number, PoolState(told.state), told.generation, told.available, None)
+        return PoolCounts(told.number, PoolState(told.state), told.generation, told.available, None, told.in_use, told.pending, told.waiting)
+
+    def next_due(self, moment: int) -> int | None:
+        """The first moment from the given one on at which a timer changes something, unless another step comes before; None where no time brings it to that."""
+        due = c_uint64()
+        try:
+            with self.lock:
+                check(LIBRARY.mdb_pool_next_due(byref(self._slot), fitting(moment, 64), byref(due)))
+        except NoEntry:
+            return None
+        return due.value
 
     def generation(self, service: str = "") -> int:
         """How often the pool was cleared for a service, or as a whole for no text. Raises Malformed where it is no service."""

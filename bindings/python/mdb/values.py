@@ -343,6 +343,12 @@ class PoolCounts:
     """How many connections nobody has."""
     has_job: bool | None
     """Of a driver's pool, whether a pending connection waits for a worker who claims it; of a pool that stands alone None."""
+    in_use: int | None = None
+    """Of a pool that stands alone, how many connections are neither available nor pending; of a driver's pool None, as the next two."""
+    pending: int | None = None
+    """How many connections are not established yet."""
+    waiting: int | None = None
+    """How many callers wait in the queue."""
 
 
 @dataclass(frozen=True)

@@ -62,6 +62,7 @@ struct given {
     POOL(ready, "")                                                                                                                                            \
     POOL(clear, "nt", given.number[0], TEXT(0))                                                                                                                \
     POOL(maintain, "")                                                                                                                                         \
+    POOL(tick, "")                                                                                                                                             \
     POOL(expire, "")                                                                                                                                           \
     POOL(close, "")
 

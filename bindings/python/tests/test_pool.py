@@ -5,7 +5,7 @@ import threading
 
 import pytest
 
-from mdb import Cause, Closed, CloseReason, Connection, Driver, End, Event, FactKind, Kind, Malformed, Pool, PoolState, Use, Why
+from mdb import Cause, Closed, CloseReason, Connection, Driver, End, Event, FactKind, Kind, Malformed, NoEntry, Pool, PoolState, Use, Why
 
 SERVICE = "0102030405060708090a0b0c"
 
@@ -155,3 +155,21 @@ def test_threads_share_a_pool():
     for one in crew:
         one.join()
     assert sorted(ended) == list(range(1, 1201))
+
+
+def test_counts_and_dues():
+    """By CMAP: what is created is pending, then in use, then available; a caller waits for `max_wait`, and what is available for `max_idle`."""
+    with Pool(number=3, max_size=1, max_wait=100, max_idle=50) as pool:
+        pool.ready(1)
+        assert pool.next_due(1) is None
+        pool.request(2, 1)
+        assert (pool.counts().pending, pool.counts().in_use, pool.counts().waiting) == (1, 0, 0)
+        pool.established(3, 1)
+        pool.request(4, 2)
+        assert (pool.counts().pending, pool.counts().in_use, pool.counts().waiting) == (0, 1, 1)
+        assert pool.next_due(5) == 104
+        with pytest.raises(NoEntry):
+            pool.tick(103)
+        assert [it.kind for it in pool.tick(104).facts if it.party == 2] == [FactKind.ENDED]
+        pool.return_(110, 1)
+        assert (pool.counts().available, pool.counts().in_use, pool.next_due(110)) == (1, 0, 160)
