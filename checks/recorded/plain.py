@@ -14,6 +14,26 @@ BEATS = ('ServerHeartbeatStarted', 'ServerHeartbeatSucceeded', 'ServerHeartbeatF
 POOL_LIFE = ('ConnectionPoolReady', 'ConnectionPoolCleared', 'ConnectionPoolClosed', 'ConnectionCreated')
 REASONS = {'ConnectionClosed': ('idle', 'stale', 'error', 'connectionError', 'poolClosed'), 'ConnectionCheckOutFailed': ('timeout', 'connectionError', 'poolClosed')}
 
+# The rules of each section of the standards; that of closed-while-out is by the year.
+SECTIONS = {
+    'CMAP, Creating a Connection Pool': ('pool-created-twice', 'pool-not-created'),
+    'CMAP, Closing a Connection Pool': ('pool-is-closed', 'left-in-pool'),
+    'CMAP, Marking a Connection Pool as Ready': ('pool-ready-twice',),
+    'CMAP, Clearing a Connection Pool': ('cleared-while-paused', 'not-cleared'),
+    'CMAP, Checking Out a Connection': ('pool-not-ready', 'not-ready', 'checked-out-twice', 'stale', 'idle', 'not-started'),
+    'CMAP, Connection Pool Members': ('created-while-paused',),
+    'CMAP, Creating a Connection': ('created-twice', 'not-created'),
+    'CMAP, Establishing a Connection': ('ready-twice',),
+    'CMAP, Checking In a Connection': ('not-checked-out',),
+    'CMAP, Closing a Connection': ('closed-twice', 'is-closed'),
+    'CMAP, Connection Pool Options': ('too-many', 'too-many-pending'),
+    'CMAP, Events': ('no-reason',),
+    'CMAP, WaitQueue': ('out-of-turn',),
+    'SDAM Monitoring, Events': ('server-opened-twice', 'server-not-open', 'from-differs', 'no-cause', 'topology-opened-late', 'topology-is-closed'),
+    'SDAM Monitoring, Heartbeats': ('no-check', 'checked-twice'),
+}
+SECTION = {rule: section for section, rules in SECTIONS.items() for rule in rules}
+
 
 class Malformed(Exception):
     pass
@@ -157,6 +177,11 @@ def lying(pool):
     return sum(1 for me in {x['id'] for x in pool if x['id'] is not None} if lies(pool, me))
 
 
+def moved(pool, me):
+    """The newest event by which somebody has the connection, or nobody."""
+    return newest(pool, lambda x: x['id'] == me and x['event'] in ('ConnectionCreated', 'ConnectionCheckedOut', 'ConnectionCheckedIn'))
+
+
 def waiting(pools):
     """How many check-outs of these pools did not end."""
     count = 0
@@ -227,6 +252,56 @@ def is_passed(pool, e):
     mine = start(pool + [e], len(pool))
     served = (start(pool, n) for n, x in enumerate(pool) if x['event'] in ENDS_WAIT[:2])
     return mine is not None and any(n is not None and mine < n for n in served)
+
+
+def overtaker(pool):
+    """The event that served the check-out that was started last, of all that waited and were served."""
+    served = [(start(pool, n), x) for n, x in enumerate(pool) if x['event'] in ENDS_WAIT[:2]]
+    return max(((n, x) for n, x in served if n is not None), key=lambda it: it[0], default=(None, None))[1]
+
+
+def against(pool, e, rule):
+    """The event of the pool that an event contradicts which breaks the rule."""
+    me, own = e['id'], since(pool, e['id'])
+    stops = [x for x in pool if x['event'] == 'ConnectionPoolCreated'] + pauses(pool)
+    if rule in ('pool-created-twice', 'too-many', 'too-many-pending'):
+        return newest(pool, lambda x: x['event'] == 'ConnectionPoolCreated')
+    if rule == 'pool-is-closed':
+        return newest(pool, lambda x: x['event'] == 'ConnectionPoolClosed')
+    if rule == 'pool-ready-twice':
+        return newest(pool, lambda x: x['event'] == 'ConnectionPoolReady')
+    if rule in ('cleared-while-paused', 'pool-not-ready', 'created-while-paused'):
+        return max(stops, key=lambda x: x['line'], default=None)
+    if rule == 'stale':
+        return newest(pool, lambda x: x['event'] == 'ConnectionPoolCleared' and x['all'])
+    if rule in ('created-twice', 'not-ready', 'not-cleared'):
+        return newest(pool, lambda x: x['event'] == 'ConnectionCreated' and x['id'] == me)
+    if rule in ('checked-out-twice', 'not-checked-out', 'closed-while-out'):
+        return moved(pool, me)
+    if rule in ('ready-twice', 'idle', 'closed-twice', 'is-closed'):
+        kinds = {'ready-twice': ('ConnectionReady',), 'idle': ('ConnectionReady', 'ConnectionCheckedIn')}.get(rule, ('ConnectionClosed',))
+        return newest(own, lambda x: x['id'] == me and x['event'] in kinds)
+    if rule == 'not-started' and e['caller'] is not None:
+        return newest(pool, lambda x: x['caller'] == e['caller'] and x['event'] in ('ConnectionCheckedOut', 'ConnectionCheckOutFailed'))
+    if rule == 'out-of-turn':
+        return overtaker(pool)
+    return None
+
+
+def server_against(events, e, rule):
+    """The event of its server or of the topology that an event contradicts which breaks the rule."""
+    mine, begins = [x for x in events if x['address'] == e['address'] and e['address'] is not None], SERVERS + TOPOLOGIES[::2]
+    kinds = {'server-opened-twice': SERVERS[:1], 'server-not-open': SERVERS[1:2], 'from-differs': SERVERS, 'no-check': BEATS[1:], 'checked-twice': BEATS[:1]}
+    if rule in kinds:
+        return newest(mine, lambda x: x['event'] in kinds[rule])
+    kinds = {'no-cause': TOPOLOGIES[2:], 'topology-opened-late': begins, 'topology-is-closed': TOPOLOGIES[1:2]}
+    return newest(events, lambda x: x['event'] in kinds[rule])
+
+
+def ending(other, rule, year):
+    """The line of the other event, and the section."""
+    section = 'CMAP, Clearing a Connection Pool' if not year else 'CMAP, Closing a Connection'
+    return '%s section=%s' % ('' if other is None else ' against=%d' % other['line'], section if rule == 'closed-while-out' else SECTION[rule])
 
 
 def server_rules(events, e):
@@ -366,15 +441,19 @@ def report(data, year):
         if event is None:
             passed += 1
             continue
+        event['line'] = n
         if event['kind'] != 'pool':
             for rule in server_rules(servers, event):
                 found += 1
-                lines.append('event %d: %s%s' % (n, rule, '' if event['address'] is None else ' server=' + event['address']))
+                place = '' if event['address'] is None else ' server=' + event['address']
+                lines.append('event %d: %s%s%s' % (n, rule, place, ending(server_against(servers, event, rule), rule, year)))
             servers.append(event)
             continue
-        for rule in pool_rules(lives(events, event['address']), event, year):
+        pools = lives(events, event['address'])
+        for rule in pool_rules(pools, event, year):
             found += 1
-            lines.append('event %d: %s pool=%s%s' % (n, rule, event['address'], '' if event['id'] is None else ' connection=%d' % event['id']))
+            place = event['address'] + ('' if event['id'] is None else ' connection=%d' % event['id'])
+            lines.append('event %d: %s pool=%s%s' % (n, rule, place, ending(against(pools[-1], event, rule), rule, year)))
         events.append(event)
     for address in dict.fromkeys(e['address'] for e in events):
         pools = lives(events, address)

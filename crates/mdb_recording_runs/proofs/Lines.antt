@@ -36,7 +36,7 @@ pub record LinesLeft (standard : Standard) (text rest : List ℕ) (n : ℕ) (rea
   pub read : Read
   pub told : List ℕ
   pub keeps : Keeps standard read told reader
-  pub reads : after_lines standard read (lines_of rest) ≡ read_of standard text
+  pub reads : after_lines standard (n + 1) read (lines_of rest) ≡ read_of standard text
   pub tells : told ++ lines_text standard (n + 1) read (lines_of rest) ≡ lines_text standard 1 nothing (lines_of text)
 
 pub lines-start : (standard : Standard) (text : List ℕ) (reader : Reader) → Keeps standard nothing [] reader → LinesLeft standard text text 0 reader
@@ -44,16 +44,19 @@ lines-start standard text reader keeps = record { read = nothing; told = []; kee
 
 -- one line more
 pub line-more : (standard : Standard) (text rest more line : List ℕ) (n k : ℕ) (old new : Reader) → k ≡ n + 1 → CutsFirst rest line more
-    → ((s : Read) (told : List ℕ) → Keeps standard s told old → Keeps standard (after_said standard s (said line)) (told ++ said_text standard k s (said line)) new)
+    → ((s : Read) (told : List ℕ) → Keeps standard s told old → Keeps standard (after_said standard k s (said line)) (told ++ said_text standard k s (said line)) new)
     → LinesLeft standard text rest n old → LinesLeft standard text more k new
 line-more standard text rest more line n k old new next cut take left = record {
-  read = after_said standard left.read (said line);
+  read = after_said standard k left.read (said line);
   told = left.told ++ said_text standard k left.read (said line);
   keeps = take left.read left.told left.keeps;
-  reads = ap (λ l. after_lines standard (after_said standard left.read (said l)) (lines_of more)) (sym cut.own) ∙ ap (λ ls. after_lines standard left.read ls) (sym cut.lines) ∙ left.reads;
+  reads =
+      ap (λ l. after_lines standard (k + 1) (after_said standard k left.read (said l)) (lines_of more)) (sym cut.own)
+      ∙ ap (λ m. after_lines standard m left.read (cut.whole ∷ lines_of more)) next
+      ∙ ap (λ ls. after_lines standard (n + 1) left.read ls) (sym cut.lines) ∙ left.reads;
   tells =
-      append_assoc left.told (said_text standard k left.read (said line)) (lines_text standard (k + 1) (after_said standard left.read (said line)) (lines_of more))
-      ∙ ap (λ l. left.told ++ (said_text standard k left.read (said l) ++ lines_text standard (k + 1) (after_said standard left.read (said l)) (lines_of more))) (sym cut.own)
+      append_assoc left.told (said_text standard k left.read (said line)) (lines_text standard (k + 1) (after_said standard k left.read (said line)) (lines_of more))
+      ∙ ap (λ l. left.told ++ (said_text standard k left.read (said l) ++ lines_text standard (k + 1) (after_said standard k left.read (said l)) (lines_of more))) (sym cut.own)
       ∙ ap (λ m. left.told ++ lines_text standard m left.read (cut.whole ∷ lines_of more)) next
       ∙ ap (λ ls. left.told ++ lines_text standard (n + 1) left.read ls) (sym cut.lines) ∙ left.tells;
 }

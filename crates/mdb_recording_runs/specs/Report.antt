@@ -3,7 +3,7 @@ use Rattle.std.specs.Prelude.{ℕ, ◌+◌, ◌==◌, ◌&&◌, Bool, not, List,
 use Rattle.mdb_lines.specs.Script.{lines_of}
 use Rattle.mdb_recordings.specs.Events.{id_of}
 use Rattle.mdb_recordings.specs.Lives.{life, facts_of, former_of}
-use Rattle.mdb_recordings.specs.Rules.{breaks}
+use Rattle.mdb_recordings.specs.Rules.{against, breaks}
 use Rattle.mdb_recordings.specs.declared.event.Event.{Event}
 use Rattle.mdb_recordings.specs.declared.event.Recorded.{Recorded}
 use Rattle.mdb_recordings.specs.declared.facts.Facts.{Facts}
@@ -13,6 +13,7 @@ use Rattle.mdb_recordings.specs.declared.standard.Standard.{Standard}
 use Rattle.mdb_recording_lines.specs.Known.{place, with_named}
 use Rattle.mdb_recording_lines.specs.LineForms.{Said, malformed, passed, tells, tells_server, tells_topology, said}
 use Rattle.mdb_recording_servers.specs.ServerRules as servers
+use Rattle.mdb_recording_servers.specs.declared.event.Seen.{Seen}
 use Rattle.mdb_recording_servers.specs.declared.event.ServerEvent.{ServerEvent}
 use Rattle.mdb_recording_servers.specs.declared.event.ServerEvent.TheVariants.{Server}
 use Rattle.mdb_recording_servers.specs.declared.event.ServerTold.{ServerTold}
@@ -20,7 +21,7 @@ use Rattle.mdb_recording_servers.specs.declared.rule.ServerRule.{ServerRule}
 use Rattle.mdb_recording_runs.specs.Cutting.{without_newline}
 use Rattle.mdb_recording_runs.specs.declared.verdict.Verdict.{Verdict}
 use Rattle.mdb_recording_runs.specs.declared.verdict.Verdict.TheVariants.{Kept, Broken, NothingJudged}
-use Rattle.mdb_recording_runs.specs.RuleWords.{all_rules, rule_word, all_server_rules, server_rule_word}
+use Rattle.mdb_recording_runs.specs.RuleWords.{all_rules, rule_section, rule_word, all_server_rules, server_rule_section, server_rule_word}
 
 -- What was read so far: the addresses of pools in the order in which they were first named, and their events, the last of them newest;
 -- the same of servers, with the events of the topology; and how many events, findings and malformed lines there were, and lines that
@@ -29,7 +30,7 @@ pub record Read : Type 0 where
   pub known : List (List ℕ)
   pub history : List Recorded
   pub servers : List (List ℕ)
-  pub server_history : List ServerEvent
+  pub server_history : List Seen
   pub events : ℕ
   pub findings : ℕ
   pub malformed : ℕ
@@ -45,9 +46,18 @@ abbrev pub id_text : Option ℕ → List ℕ
 id_text None = []
 id_text (Some i) = codes " connection=" ++ decimal i
 
--- the line of a finding, by the number of the event's line and the address of its pool
-abbrev pub finding_line : ℕ → List ℕ → Recorded → Rule → List ℕ
-finding_line n a r rule = codes "event " ++ (decimal n ++ (codes ": " ++ (rule_word rule ++ (codes " pool=" ++ (a ++ (id_text (id_of r.event.told) ++ codes "\n"))))))
+-- the section of the standard, to the end of the line
+abbrev pub section_text : List ℕ → List ℕ
+section_text section = codes " section=" ++ (section ++ codes "\n")
+
+-- the line of the event that it contradicts, if there is one
+abbrev pub against_text : Option ℕ → List ℕ
+against_text None = []
+against_text (Some n) = codes " against=" ++ decimal n
+
+-- the line of a finding, by the address of the event's pool and the line of the event that it contradicts
+abbrev pub finding_line : List ℕ → Recorded → Rule → Option ℕ → List ℕ
+finding_line a r rule o = codes "event " ++ (decimal r.line ++ (codes ": " ++ (rule_word rule ++ (codes " pool=" ++ (a ++ (id_text (id_of r.event.told) ++ (against_text o ++ section_text (rule_section rule))))))))
 
 -- the findings of an event: a line for each of these rules that it breaks
 abbrev pub told_of : {R : Type 0} → (R → Bool) → (R → List ℕ) → List R → List ℕ
@@ -60,8 +70,8 @@ how_many broken [] = 0
 how_many broken (rule ∷ rules) = (if broken rule then 1 else 0) + how_many broken rules
 
 -- the findings of an event of a pool after these
-abbrev pub findings_text : Standard → List Recorded → ℕ → List ℕ → Recorded → List ℕ
-findings_text standard h n a r = told_of (λ rule. breaks standard rule h r) (λ rule. finding_line n a r rule) all_rules
+abbrev pub findings_text : Standard → List Recorded → List ℕ → Recorded → List ℕ
+findings_text standard h a r = told_of (λ rule. breaks standard rule h r) (λ rule. finding_line a r rule (against rule h r)) all_rules
 
 abbrev pub findings_count : Standard → List Recorded → Recorded → ℕ
 findings_count standard h r = how_many (λ rule. breaks standard rule h r) all_rules
@@ -71,29 +81,29 @@ abbrev pub server_text : Option (List ℕ) → List ℕ
 server_text None = []
 server_text (Some a) = codes " server=" ++ a
 
--- the line of a finding of a server, by its address, or of the topology
-abbrev pub server_finding_line : ℕ → Option (List ℕ) → ServerRule → List ℕ
-server_finding_line n o rule = codes "event " ++ (decimal n ++ (codes ": " ++ (server_rule_word rule ++ (server_text o ++ codes "\n"))))
+-- the line of a finding of a server, by its address, or of the topology, and by the line of the event that it contradicts
+abbrev pub server_finding_line : Option (List ℕ) → Seen → ServerRule → Option ℕ → List ℕ
+server_finding_line a e rule o = codes "event " ++ (decimal e.line ++ (codes ": " ++ (server_rule_word rule ++ (server_text a ++ (against_text o ++ section_text (server_rule_section rule))))))
 
 -- the findings of an event of a server or of the topology after these
-abbrev pub server_findings_text : List ServerEvent → ℕ → Option (List ℕ) → ServerEvent → List ℕ
-server_findings_text h n o e = told_of (λ rule. servers.breaks rule h e) (λ rule. server_finding_line n o rule) all_server_rules
+abbrev pub server_findings_text : List Seen → Option (List ℕ) → Seen → List ℕ
+server_findings_text h a e = told_of (λ rule. servers.breaks rule h e.event) (λ rule. server_finding_line a e rule (servers.against rule h e.event)) all_server_rules
 
-abbrev pub server_findings_count : List ServerEvent → ServerEvent → ℕ
-server_findings_count h e = how_many (λ rule. servers.breaks rule h e) all_server_rules
+abbrev pub server_findings_count : List Seen → Seen → ℕ
+server_findings_count h e = how_many (λ rule. servers.breaks rule h e.event) all_server_rules
 
 -- lines
 
--- an event of the pool at the address, which has its number
-abbrev pub recorded_at : Read → List ℕ → Event → Recorded
-recorded_at s a e = record { pool = unwrap_or (place a (with_named a s.known)) 0; event = e }
+-- an event of the pool at the address, which has its number, on the line n
+abbrev pub recorded_at : ℕ → Read → List ℕ → Event → Recorded
+recorded_at n s a e = record { pool = unwrap_or (place a (with_named a s.known)) 0; line = n; event = e }
 
-abbrev pub after_event : Standard → Read → List ℕ → Event → Read
-after_event standard s a e = record s {
+abbrev pub after_event : Standard → ℕ → Read → List ℕ → Event → Read
+after_event standard n s a e = record s {
   known = with_named a s.known;
-  history = recorded_at s a e ∷ s.history;
+  history = recorded_at n s a e ∷ s.history;
   events = s.events + 1;
-  findings = s.findings + findings_count standard s.history (recorded_at s a e);
+  findings = s.findings + findings_count standard s.history (recorded_at n s a e);
 }
 
 -- the address of a server is named
@@ -104,42 +114,46 @@ naming a s = record s { servers = with_named a s.servers }
 abbrev pub server_event_at : Read → List ℕ → ServerTold → ServerEvent
 server_event_at s a t = Server (unwrap_or (place a (with_named a s.servers)) 0) t
 
+-- an event on the line n
+abbrev pub seen_on : ℕ → ServerEvent → Seen
+seen_on n e = record { line = n; event = e }
+
 -- an event of a server, or of the topology
-abbrev pub after_seen : Read → ServerEvent → Read
+abbrev pub after_seen : Read → Seen → Read
 after_seen s e = record s {
   server_history = e ∷ s.server_history;
   events = s.events + 1;
   findings = s.findings + server_findings_count s.server_history e;
 }
 
--- what was read with a line that tells this
-abbrev pub after_said : Standard → Read → Said → Read
-after_said standard s malformed = record s { malformed = s.malformed + 1 }
-after_said standard s passed = record s { passed_over = s.passed_over + 1 }
-after_said standard s (tells a e) = after_event standard s a e
-after_said standard s (tells_server a t) = after_seen (naming a s) (server_event_at s a t)
-after_said standard s (tells_topology e) = after_seen s e
+-- what was read with the line n, which tells this
+abbrev pub after_said : Standard → ℕ → Read → Said → Read
+after_said standard n s malformed = record s { malformed = s.malformed + 1 }
+after_said standard n s passed = record s { passed_over = s.passed_over + 1 }
+after_said standard n s (tells a e) = after_event standard n s a e
+after_said standard n s (tells_server a t) = after_seen (naming a s) (seen_on n (server_event_at s a t))
+after_said standard n s (tells_topology e) = after_seen s (seen_on n e)
 
 abbrev pub event_text : Standard → ℕ → Read → List ℕ → Event → List ℕ
-event_text standard n s a e = findings_text standard s.history n a (recorded_at s a e)
+event_text standard n s a e = findings_text standard s.history a (recorded_at n s a e)
 
 -- what is told of the line of this number
 abbrev pub said_text : Standard → ℕ → Read → Said → List ℕ
 said_text standard n s malformed = codes "line " ++ (decimal n ++ codes ": malformed\n")
 said_text standard n s passed = []
 said_text standard n s (tells a e) = event_text standard n s a e
-said_text standard n s (tells_server a t) = server_findings_text s.server_history n (Some a) (server_event_at s a t)
-said_text standard n s (tells_topology e) = server_findings_text s.server_history n None e
+said_text standard n s (tells_server a t) = server_findings_text s.server_history (Some a) (seen_on n (server_event_at s a t))
+said_text standard n s (tells_topology e) = server_findings_text s.server_history None (seen_on n e)
 
--- what was read with these lines
-abbrev pub after_lines : Standard → Read → List (List ℕ) → Read
-after_lines standard s [] = s
-after_lines standard s (line ∷ lines) = after_lines standard (after_said standard s (said (without_newline line))) lines
+-- what was read with these lines, counted from this number
+abbrev pub after_lines : Standard → ℕ → Read → List (List ℕ) → Read
+after_lines standard n s [] = s
+after_lines standard n s (line ∷ lines) = after_lines standard (n + 1) (after_said standard n s (said (without_newline line))) lines
 
 -- what is told of these lines, counted from this number
 abbrev pub lines_text : Standard → ℕ → Read → List (List ℕ) → List ℕ
 lines_text standard n s [] = []
-lines_text standard n s (line ∷ lines) = said_text standard n s (said (without_newline line)) ++ lines_text standard (n + 1) (after_said standard s (said (without_newline line))) lines
+lines_text standard n s (line ∷ lines) = said_text standard n s (said (without_newline line)) ++ lines_text standard (n + 1) (after_said standard n s (said (without_newline line))) lines
 
 -- the end
 
@@ -206,7 +220,7 @@ end_text s = pools_text s.history 0 s.known ++ end_line s
 
 -- what a recording comes to
 abbrev pub read_of : Standard → List ℕ → Read
-read_of standard text = after_lines standard nothing (lines_of text)
+read_of standard text = after_lines standard 1 nothing (lines_of text)
 
 abbrev pub report : Standard → List ℕ → List ℕ
 report standard text = lines_text standard 1 nothing (lines_of text) ++ end_text (read_of standard text)

@@ -9,7 +9,9 @@ mod text;
 mod tool;
 mod verdict;
 
-pub use rule_words::{all_rules, all_server_rules, rule_word, server_rule_word};
+pub use rule_words::{
+    all_rules, all_server_rules, rule_section, rule_word, server_rule_section, server_rule_word,
+};
 pub use text::{Report, judge};
 pub use tool::{MAX_RECORDING, run_recorded};
 pub use verdict::Verdict;

@@ -11,7 +11,7 @@ use crate::server_findings::{ServerEventContext, tell_server_findings};
 use json::Scratch;
 use mdb_base::OutOfMemory;
 use mdb_recording_lines::{Line, Names, read_line};
-use mdb_recording_servers::{ServerEvent, ServerJudge, ServerTold};
+use mdb_recording_servers::{Seen, ServerEvent, ServerJudge, ServerTold};
 use mdb_recordings::{Event, Judge, Recorded, Standard};
 use std::alloc::Global;
 
@@ -54,14 +54,14 @@ impl Reader {
     // An event of the pool at the address.
     fn take_event(&mut self, number: u64, address: &str, event: Event) -> Result<(), OutOfMemory>
         ensures { OnOk result ((standard : Standard_) (s : Read) (text : List ℕ) → Keeps standard s text self.old
-            → Keeps standard (after_event standard s address.now event) (text ++ event_text standard number s address.now event) self.new) }
+            → Keeps standard (after_event standard number s address.now event) (text ++ event_text standard number s address.now event) self.new) }
     {
         let pool = self.names.number(self.alloc, address)?;
-        let recorded = Recorded { pool, event };
+        let line = number;
+        let recorded = Recorded { pool, line, event };
         let known = self.judge.look(&recorded);
         let place = EventContext {
             standard: self.standard,
-            number,
             address,
             recorded: &recorded,
             known: &known,
@@ -74,24 +74,18 @@ impl Reader {
     }
 
     // An event of a server or of the topology.
-    fn take_seen(
-        &mut self,
-        number: u64,
-        address: Option<&str>,
-        event: &ServerEvent,
-    ) -> Result<(), OutOfMemory>
+    fn take_seen(&mut self, address: Option<&str>, seen: &Seen) -> Result<(), OutOfMemory>
         ensures { OnOk result ((standard : Standard_) (s : Read) (text : List ℕ) → Keeps standard s text self.old
-            → Keeps standard (after_seen s event.now) (text ++ server_findings_text s.server_history number (option_map (λ a. a.now) address.entry) event.now) self.new) }
+            → Keeps standard (after_seen s seen.now) (text ++ server_findings_text s.server_history (option_map (λ a. a.now) address.entry) seen.now) self.new) }
     {
-        let known = self.server_judge.look(event);
+        let known = self.server_judge.look(&seen.event);
         let place = ServerEventContext {
-            number,
             address,
-            event,
+            seen,
             known: &known,
         };
         let found = tell_server_findings(self.alloc, &mut self.out, &place)?;
-        self.server_judge.note(event, &known)?;
+        self.server_judge.note(seen, &known)?;
         self.events = sum(self.events, 1)?;
         self.findings = sum(self.findings, found)?;
         Ok(())
@@ -105,18 +99,19 @@ impl Reader {
         told: ServerTold,
     ) -> Result<(), OutOfMemory>
         ensures { OnOk result ((standard : Standard_) (s : Read) (text : List ℕ) → Keeps standard s text self.old
-            → Keeps standard (after_said standard s (tells_server address.now told)) (text ++ said_text standard number s (tells_server address.now told)) self.new) }
+            → Keeps standard (after_said standard number s (tells_server address.now told)) (text ++ said_text standard number s (tells_server address.now told)) self.new) }
     {
         let server = self.servers.number(self.alloc, address)?;
         let event = ServerEvent::Server(server, told);
-        self.take_seen(number, Some(address), &event)?;
+        let line = number;
+        self.take_seen(Some(address), &Seen { line, event })?;
         Ok(())
     }
 
     // A line that can't be read.
     fn take_malformed(&mut self, number: u64) -> Result<(), OutOfMemory>
         ensures { OnOk result ((standard : Standard_) (s : Read) (text : List ℕ) → Keeps standard s text self.old
-            → Keeps standard (after_said standard s unreadable) (text ++ said_text standard number s unreadable) self.new) }
+            → Keeps standard (after_said standard number s unreadable) (text ++ said_text standard number s unreadable) self.new) }
     {
         let line = format!(in self.alloc; "line {number}: malformed\n")?;
         self.out.push_str(line.as_str())?;
@@ -127,7 +122,7 @@ impl Reader {
     // A line of a kind that is not judged.
     fn pass_over(&mut self, number: u64) -> Result<(), OutOfMemory>
         ensures { OnOk result ((standard : Standard_) (s : Read) (text : List ℕ) → Keeps standard s text self.old
-            → Keeps standard (after_said standard s not_judged) (text ++ said_text standard number s not_judged) self.new) }
+            → Keeps standard (after_said standard number s not_judged) (text ++ said_text standard number s not_judged) self.new) }
     {
         self.passed_over = sum(self.passed_over, 1)?;
         Ok(())
@@ -136,14 +131,17 @@ impl Reader {
     // What a line tells.
     fn take_line(&mut self, number: u64, line: Line<'_>) -> Result<(), OutOfMemory>
         ensures { OnOk result ((standard : Standard_) (s : Read) (text : List ℕ) → Keeps standard s text self.old
-            → Keeps standard (after_said standard s (line_view line.entry)) (text ++ said_text standard number s (line_view line.entry)) self.new) }
+            → Keeps standard (after_said standard number s (line_view line.entry)) (text ++ said_text standard number s (line_view line.entry)) self.new) }
     {
         match line {
             Line::Malformed => self.take_malformed(number),
             Line::Passed => self.pass_over(number),
             Line::Told(address, event) => self.take_event(number, address, event),
             Line::OfServer(address, told) => self.take_server(number, address, told),
-            Line::OfTopology(event) => self.take_seen(number, None, &event),
+            Line::OfTopology(event) => {
+                let line = number;
+                self.take_seen(None, &Seen { line, event })
+            }
         }
     }
 
@@ -155,7 +153,7 @@ impl Reader {
         line: &[u8],
     ) -> Result<(), OutOfMemory>
         ensures { OnOk result ((standard : Standard_) (s : Read) (text : List ℕ) → Keeps standard s text self.old
-            → Keeps standard (after_said standard s (said line.now)) (text ++ said_text standard number s (said line.now)) self.new) }
+            → Keeps standard (after_said standard number s (said line.now)) (text ++ said_text standard number s (said line.now)) self.new) }
     {
         let told = read_line(self.alloc, scratch, line)?;
         self.take_line(number, told)?;

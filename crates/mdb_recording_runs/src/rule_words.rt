@@ -1,7 +1,7 @@
 //! The rules, in the order in which they are told, and their words.
 
 ghost use Rattle.std.specs.Prelude.{◌≡◌};
-ghost use Rattle.mdb_recording_runs.specs.RuleWords.{all_rules, all_server_rules, rule_word, server_rule_word};
+ghost use Rattle.mdb_recording_runs.specs.RuleWords.{all_rules, all_server_rules, rule_section, rule_word, server_rule_section, server_rule_word};
 
 use mdb_recording_servers::ServerRule;
 use mdb_recordings::Rule;
@@ -86,6 +86,33 @@ pub fn rule_word(rule: Rule) -> &'static str
     }
 }
 
+/// The section of the standard that a rule of pools comes from, by its heading in CMAP.
+pub fn rule_section(rule: Rule) -> &'static str
+    ensures { result.now ≡ rule_section rule }
+{
+    match rule {
+        Rule::PoolCreatedTwice | Rule::PoolNotCreated => "CMAP, Creating a Connection Pool",
+        Rule::PoolIsClosed | Rule::LeftInPool => "CMAP, Closing a Connection Pool",
+        Rule::PoolReadiedTwice => "CMAP, Marking a Connection Pool as Ready",
+        Rule::ClearedWhilePaused | Rule::ClosedInUse | Rule::NotCleared =>
+            "CMAP, Clearing a Connection Pool",
+        Rule::PoolNotReady
+        | Rule::NotReadied
+        | Rule::OutTwice
+        | Rule::IsStale
+        | Rule::IsIdle
+        | Rule::NotStarted => "CMAP, Checking Out a Connection",
+        Rule::CreatedWhilePaused => "CMAP, Connection Pool Members",
+        Rule::CreatedTwice | Rule::NotCreated => "CMAP, Creating a Connection",
+        Rule::ReadiedTwice => "CMAP, Establishing a Connection",
+        Rule::NotOut => "CMAP, Checking In a Connection",
+        Rule::ClosedTwice | Rule::IsClosed | Rule::ClosedWhileOut => "CMAP, Closing a Connection",
+        Rule::TooMany | Rule::TooManyPending => "CMAP, Connection Pool Options",
+        Rule::HasNoReason => "CMAP, Events",
+        Rule::OutOfTurn => "CMAP, WaitQueue",
+    }
+}
+
 /// All rules of servers and of the topology.
 pub fn all_server_rules() -> &'static [ServerRule]
     ensures { result.now ≡ all_server_rules }
@@ -106,5 +133,20 @@ pub fn server_rule_word(rule: ServerRule) -> &'static str
         ServerRule::HasNoCause => "no-cause",
         ServerRule::OpenedLate => "topology-opened-late",
         ServerRule::IsClosed => "topology-is-closed",
+    }
+}
+
+/// The section of the standard that a rule of servers or of the topology comes from, by its heading in SDAM Monitoring.
+pub fn server_rule_section(rule: ServerRule) -> &'static str
+    ensures { result.now ≡ server_rule_section rule }
+{
+    match rule {
+        ServerRule::OpenedTwice
+        | ServerRule::NotOpen
+        | ServerRule::FromDiffers
+        | ServerRule::HasNoCause
+        | ServerRule::OpenedLate
+        | ServerRule::IsClosed => "SDAM Monitoring, Events",
+        ServerRule::NotChecked | ServerRule::CheckedTwice => "SDAM Monitoring, Heartbeats",
     }
 }

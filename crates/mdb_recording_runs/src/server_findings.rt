@@ -1,24 +1,23 @@
 //! The findings of one event of a server, or of the topology.
 
 ghost use Rattle.std.specs.Prelude.{◌≡◌, ◌++◌, List, IfOk, ◌∷◌, [], option_map, string_bytes};
-ghost use Rattle.mdb_recording_servers.specs.declared.event.ServerEvent.{ServerEvent as Event_};
-ghost use Rattle.mdb_recording_servers.specs.ServerRules.{breaks, known_of};
+ghost use Rattle.mdb_recording_servers.specs.declared.event.Seen.{Seen as Seen_};
+ghost use Rattle.mdb_recording_servers.specs.ServerRules.{against, breaks, known_of};
 ghost use Rattle.mdb_recording_runs.specs.Keeping.{TellsRules};
 ghost use Rattle.mdb_recording_runs.specs.Report.{server_finding_line, server_text};
 ghost use Rattle.mdb_recording_runs.specs.RuleWords.{all_server_rules};
 
-use crate::findings::sum;
-use crate::rule_words::{all_server_rules, server_rule_word};
+use crate::findings::{against_text, section_text, sum};
+use crate::rule_words::{all_server_rules, server_rule_section, server_rule_word};
 use mdb_base::OutOfMemory;
-use mdb_recording_servers::{Known, ServerEvent, ServerRule, breaks};
+use mdb_recording_servers::{Known, Seen, ServerRule, against, breaks};
 use std::alloc::Global;
 
-/// Where findings are told of: the number of the event's line, the address of its server, if it names one, the event, and what is known before it.
+/// Where findings are told of: the address of the event's server, if it names one, the event, and what is known before it.
 #[derive(Clone, Copy)]
 pub struct ServerEventContext<'a> {
-    pub number: u64,
     pub address: Option<&'a str>,
-    pub event: &'a ServerEvent,
+    pub seen: &'a Seen,
     pub known: &'a Known,
 }
 
@@ -33,15 +32,19 @@ fn server_text(alloc: Global, address: Option<&str>) -> Result<String, OutOfMemo
 
 fn server_finding_line(
     alloc: Global,
-    number: u64,
     address: Option<&str>,
+    seen: &Seen,
     rule: ServerRule,
+    other: Option<u64>,
 ) -> Result<String, OutOfMemory>
-    ensures { IfOk result (λ s. string_bytes s ≡ server_finding_line number (option_map (λ a. a.now) address.entry) rule) }
+    ensures { IfOk result (λ s. string_bytes s ≡ server_finding_line (option_map (λ a. a.now) address.entry) seen.now rule other) }
 {
+    let number = seen.line;
     let word = server_rule_word(rule);
     let server = server_text(alloc, address)?;
-    Ok(format!(in alloc; "event {number}: {word}{server}\n")?)
+    let against = against_text(alloc, other)?;
+    let section = section_text(alloc, server_rule_section(rule))?;
+    Ok(format!(in alloc; "event {number}: {word}{server}{against}{section}")?)
 }
 
 // Tells of one rule, if the event breaks it, and answers how many findings that is.
@@ -51,11 +54,12 @@ fn tell_server_rule(
     place: &ServerEventContext<'_>,
     rule: ServerRule,
 ) -> Result<u64, OutOfMemory>
-    ensures { IfOk result (λ n. (h : List Event_) → place.now.known.now ≡ known_of h place.now.event.now
-        → TellsRules (λ r. breaks r h place.now.event.now) (λ r. server_finding_line place.now.number (option_map (λ a. a.now) place.now.address) r) (rule ∷ []) (string_bytes out.old) (string_bytes out.new) n) }
+    ensures { IfOk result (λ n. (h : List Seen_) → place.now.known.now ≡ known_of h place.now.seen.now.event
+        → TellsRules (λ r. breaks r h place.now.seen.now.event) (λ r. server_finding_line (option_map (λ a. a.now) place.now.address) place.now.seen.now r (against r h place.now.seen.now.event)) (rule ∷ []) (string_bytes out.old) (string_bytes out.new) n) }
 {
-    if breaks(rule, place.known, place.event) {
-        let line = server_finding_line(alloc, place.number, place.address, rule)?;
+    if breaks(rule, place.known, &place.seen.event) {
+        let other = against(rule, place.known, &place.seen.event);
+        let line = server_finding_line(alloc, place.address, place.seen, rule, other)?;
         out.push_str(line.as_str())?;
         Ok(1)
     } else {
@@ -69,8 +73,8 @@ pub fn tell_server_findings(
     out: &mut String,
     place: &ServerEventContext<'_>,
 ) -> Result<u64, OutOfMemory>
-    ensures { IfOk result (λ n. (h : List Event_) → place.now.known.now ≡ known_of h place.now.event.now
-        → TellsRules (λ r. breaks r h place.now.event.now) (λ r. server_finding_line place.now.number (option_map (λ a. a.now) place.now.address) r) all_server_rules (string_bytes out.old) (string_bytes out.new) n) }
+    ensures { IfOk result (λ n. (h : List Seen_) → place.now.known.now ≡ known_of h place.now.seen.now.event
+        → TellsRules (λ r. breaks r h place.now.seen.now.event) (λ r. server_finding_line (option_map (λ a. a.now) place.now.address) place.now.seen.now r (against r h place.now.seen.now.event)) all_server_rules (string_bytes out.old) (string_bytes out.new) n) }
 {
     let mut found = 0u64;
     let mut rest = all_server_rules();

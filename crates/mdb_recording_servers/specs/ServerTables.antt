@@ -15,7 +15,7 @@ no_server = server_of 0 []
 abbrev pub server_at : Servers → ℕ → Server
 server_at t s = unwrap_or (get (λ x y. x == y) t.map s) no_server
 
--- the server that an event names was replaced by what it is after it, if one is named; before, so much was known of it
-abbrev pub SetsServer : ServerEvent → Server → Servers → Servers → Type 0
-SetsServer (events.Server p told) x old new = (s : ℕ) → server_at new s ≡ if p == s then server_after told x else server_at old s
-SetsServer _ x old new = new ≡ old
+-- the server that an event on the line n names was replaced by what it is after it, if one is named; before, so much was known of it
+abbrev pub SetsServer : ServerEvent → ℕ → Server → Servers → Servers → Type 0
+SetsServer (events.Server p told) n x old new = (s : ℕ) → server_at new s ≡ if p == s then server_after told n x else server_at old s
+SetsServer _ n x old new = new ≡ old

@@ -38,6 +38,13 @@ pub enum ServerEvent {
     TopologyClosed,
 }
 
+/// An event, and the number of the line that tells it.
+#[derive(Clone, Copy, Debug)]
+pub struct Seen {
+    pub line: u64,
+    pub event: ServerEvent,
+}
+
 impl ServerKind {
     pub(crate) fn number(self) -> u8
         ensures { result ≡ kind_number self }

@@ -1,8 +1,8 @@
 //! The rules that a driver's servers and its topology keep, and when an event breaks one.
 
 ghost use Rattle.std.specs.Prelude.{◌≡◌, List};
-ghost use Rattle.mdb_recording_servers.specs.ServerRules.{breaks, differs, is_broken, known_of};
-ghost use Rattle.mdb_recording_servers.specs.declared.event.ServerEvent.{ServerEvent as Event_};
+ghost use Rattle.mdb_recording_servers.specs.ServerRules.{against, breaks, contradicted, differs, is_broken, known_of};
+ghost use Rattle.mdb_recording_servers.specs.declared.event.Seen.{Seen as Seen_};
 
 use crate::event::{ServerEvent, ServerKind};
 use crate::known::Known;
@@ -53,7 +53,32 @@ fn is_broken(rule: ServerRule, known: &Known, event: &ServerEvent) -> bool
 
 /// The event breaks the rule, where so much is known before it.
 pub fn breaks(rule: ServerRule, known: &Known, event: &ServerEvent) -> bool
-    ensures { (h : List Event_) → known.now ≡ known_of h event.now → result ≡ breaks rule h event.now }
+    ensures { (h : List Seen_) → known.now ≡ known_of h event.now → result ≡ breaks rule h event.now }
 {
     is_broken(rule, known, event)
+}
+
+fn contradicted(rule: ServerRule, known: &Known) -> Option<u64>
+    ensures { result ≡ contradicted rule known.now }
+{
+    let server = &known.server.lines;
+    let topology = &known.topology.lines;
+    match rule {
+        ServerRule::OpenedTwice => server.opened,
+        ServerRule::NotOpen => server.closed,
+        ServerRule::FromDiffers => server.kind_told,
+        ServerRule::NotChecked => server.check_ended,
+        ServerRule::CheckedTwice => server.check_started,
+        ServerRule::HasNoCause => topology.changed,
+        ServerRule::OpenedLate => topology.begun,
+        ServerRule::IsClosed => topology.closed,
+    }
+}
+
+/// The line of the event that an event contradicts which breaks the rule, where so much is known before it: none where something is missing.
+pub fn against(rule: ServerRule, known: &Known, event: &ServerEvent) -> Option<u64>
+    ensures { (h : List Seen_) → known.now ≡ known_of h event.now → result ≡ against rule h event.now }
+{
+    let _event = *event;
+    contradicted(rule, known)
 }

@@ -1,10 +1,11 @@
 //! What is known of one server.
 
 ghost use Rattle.std.specs.Prelude.{◌≡◌, ◌+◌, ◌-◌, IfOk};
-ghost use Rattle.mdb_recording_servers.specs.ServerSteps.{server_after};
+ghost use Rattle.mdb_recording_servers.specs.ServerSteps.{server_after, server_state_after};
 ghost use Rattle.mdb_recording_servers.specs.declared.event.ServerTold.TheVariants.{CheckStarted};
 
 use crate::event::{ServerKind, ServerTold};
+use crate::server_lines::ServerLines;
 use mdb_base::OutOfMemory;
 
 /// What the events tell of a server.
@@ -18,6 +19,7 @@ pub struct Server {
     pub checks: u64,
     /// What it is, as far as that was told.
     pub kind: Option<ServerKind>,
+    pub lines: ServerLines,
 }
 
 impl Server {
@@ -27,11 +29,12 @@ impl Server {
         is_checked: false,
         checks: 0,
         kind: None,
+        lines: ServerLines::UNTOLD,
     };
 
     // A check of it begins. A count past 2^64 - 1 is more than memory could have brought.
     fn with_check(self) -> Result<Server, OutOfMemory>
-        ensures { IfOk result (λ x. x ≡ server_after CheckStarted self) }
+        ensures { IfOk result (λ x. x ≡ server_state_after CheckStarted self) }
     {
         match self.checks.checked_add(1) {
             Some(checks) => Ok(Server {
@@ -43,9 +46,20 @@ impl Server {
         }
     }
 
-    /// After an event of it.
-    pub(crate) fn after(self, told: &ServerTold) -> Result<Server, OutOfMemory>
-        ensures { IfOk result (λ x. x ≡ server_after told.now self) }
+    /// After an event of it on this line.
+    pub(crate) fn after(self, told: &ServerTold, line: u64) -> Result<Server, OutOfMemory>
+        ensures { IfOk result (λ x. x ≡ server_after told.now line self) }
+    {
+        let state = self.state_after(told)?;
+        Ok(Server {
+            lines: self.lines.after(told, line),
+            ..state
+        })
+    }
+
+    // Its state after an event of it.
+    fn state_after(self, told: &ServerTold) -> Result<Server, OutOfMemory>
+        ensures { IfOk result (λ x. x ≡ server_state_after told.now self) }
     {
         match told {
             ServerTold::Opened => Ok(Server {

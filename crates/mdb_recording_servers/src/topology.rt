@@ -1,9 +1,10 @@
 //! What is known of the topology.
 
 ghost use Rattle.std.specs.Prelude.{◌≡◌, true};
-ghost use Rattle.mdb_recording_servers.specs.ServerSteps.{topology_after};
+ghost use Rattle.mdb_recording_servers.specs.ServerSteps.{topology_after, topology_state_after};
 
-use crate::event::{ServerEvent, ServerTold};
+use crate::event::{Seen, ServerEvent, ServerTold};
+use crate::topology_lines::TopologyLines;
 
 /// What the events tell of the topology.
 #[derive(Clone, Copy, Debug)]
@@ -20,6 +21,7 @@ pub struct Topology {
     pub had_cause: bool,
     /// A server was opened or closed since it changed last.
     pub has_move: bool,
+    pub lines: TopologyLines,
 }
 
 impl Topology {
@@ -31,6 +33,7 @@ impl Topology {
         has_cause: false,
         had_cause: true,
         has_move: false,
+        lines: TopologyLines::UNTOLD,
     };
 
     // Something was told of it or of a server that is no end and no check.
@@ -45,8 +48,18 @@ impl Topology {
     }
 
     /// After an event.
-    pub(crate) fn after(self, event: &ServerEvent) -> Topology
-        ensures { result ≡ topology_after event.now self }
+    pub(crate) fn after(self, seen: &Seen) -> Topology
+        ensures { result ≡ topology_after seen.now.event seen.now.line self }
+    {
+        Topology {
+            lines: self.lines.after(&seen.event, seen.line),
+            ..self.state_after(&seen.event)
+        }
+    }
+
+    // Its state after an event.
+    fn state_after(self, event: &ServerEvent) -> Topology
+        ensures { result ≡ topology_state_after event.now self }
     {
         match event {
             ServerEvent::Server(_, ServerTold::CheckStarted | ServerTold::CheckEnded) => self,

@@ -5,13 +5,12 @@ use Rattle.mdb_recordings.specs.Lives.{onto, life, lives, count, numbered, waits
 use Rattle.mdb_recordings.specs.Noting.{SetsNamed, SetsNumbered, GoesOn}
 use Rattle.mdb_recordings.specs.Rules.{glance_of}
 use Rattle.mdb_recordings.specs.Standing.{Stands}
-use Rattle.mdb_recordings.specs.Steps.{caller_after, connection_after, facts_after, former_after_event, new_connection, turns_after}
+use Rattle.mdb_recordings.specs.Steps.{caller_after, connection_after, facts_after, former_after_event, turns_after}
 use Rattle.mdb_recordings.specs.Tables.{pool_at, connection_at, no_connection, caller_at, no_caller, same_key}
 use Rattle.mdb_recordings.specs.declared.caller.Caller.{Caller}
 use Rattle.mdb_recordings.specs.declared.callers.Callers.{Callers}
 use Rattle.mdb_recordings.specs.declared.connection.Connection.{Connection}
 use Rattle.mdb_recordings.specs.declared.connections.Connections.{Connections}
-use Rattle.mdb_recordings.specs.declared.event.Event.{Event}
 use Rattle.mdb_recordings.specs.declared.event.Recorded.{Recorded}
 use Rattle.mdb_recordings.specs.declared.event.Told.{Told}
 use Rattle.mdb_recordings.specs.declared.event.Told.TheVariants.{PoolCreated, PoolReady, PoolCleared, PoolClosed, ConnectionCreated, ConnectionReady, ConnectionClosed, CheckOutStarted, CheckOutFailed, CheckedOut, CheckedIn}
@@ -29,19 +28,19 @@ same : (q p : ℕ) → (q == p) ≡ true → q ≡ p
 same q p e = grind arith
 
 -- what one event more tells of the pool
-facts-step : (at o : Option ℕ) (t : Told) (l : List Event) → facts_of (record { at = at; caller = o; told = t } ∷ l) ≡ facts_after t (connection_named (id_of t) l) (facts_of l)
-facts-step at o (PoolCreated limits) l = refl
-facts-step at o PoolReady l = refl
-facts-step at o (PoolCleared true) l = refl
-facts-step at o (PoolCleared false) l = refl
-facts-step at o PoolClosed l = refl
-facts-step at o (ConnectionCreated i) l = refl
-facts-step at o (ConnectionReady i) l = refl
-facts-step at o (ConnectionClosed i reason) l = refl
-facts-step at o CheckOutStarted l = refl
-facts-step at o (CheckOutFailed reason) l = refl
-facts-step at o (CheckedOut i) l = refl
-facts-step at o (CheckedIn i) l = refl
+facts-step : (p n : ℕ) (at o : Option ℕ) (t : Told) (l : List Recorded) → facts_of (record { pool = p; line = n; event = record { at = at; caller = o; told = t } } ∷ l) ≡ facts_after t n (connection_named (id_of t) l) (facts_of l)
+facts-step p n at o (PoolCreated limits) l = refl
+facts-step p n at o PoolReady l = refl
+facts-step p n at o (PoolCleared true) l = refl
+facts-step p n at o (PoolCleared false) l = refl
+facts-step p n at o PoolClosed l = refl
+facts-step p n at o (ConnectionCreated i) l = refl
+facts-step p n at o (ConnectionReady i) l = refl
+facts-step p n at o (ConnectionClosed i reason) l = refl
+facts-step p n at o CheckOutStarted l = refl
+facts-step p n at o (CheckOutFailed reason) l = refl
+facts-step p n at o (CheckedOut i) l = refl
+facts-step p n at o (CheckedIn i) l = refl
 
 -- the first where the number is the second's own, or else the second
 abbrev if_named : {A : Type 0} → Option ℕ → ℕ → A → A → A
@@ -49,7 +48,7 @@ if_named None j new old = old
 if_named (Some i) j new old = if i == j then new else old
 
 -- what one event more tells of the pools before the last
-former-step : (t : Told) (l : List Event) (x : Former) → former_after t l x ≡ former_after_event t (connection_named (id_of t) l) (facts_of l) x
+former-step : (t : Told) (l : List Recorded) (x : Former) → former_after t l x ≡ former_after_event t (connection_named (id_of t) l) (facts_of l) x
 former-step (PoolCreated limits) l x = refl
 former-step PoolReady l x = refl
 former-step (PoolCleared all) l x = refl
@@ -63,14 +62,14 @@ former-step (CheckedOut i) l x = refl
 former-step (CheckedIn i) l x = refl
 
 -- what one event more tells of a connection
-connection-step : (at o : Option ℕ) (t : Told) (l : List Event) (j : ℕ) → connection_of j (record { at = at; caller = o; told = t } ∷ l) ≡ if_named (id_of t) j (connection_after t at (facts_of l) (connection_of j l)) (connection_of j l)
-connection-step at o (PoolCreated limits) l j = refl
-connection-step at o PoolReady l j = refl
-connection-step at o (PoolCleared all) l j = refl
-connection-step at o PoolClosed l j = refl
-connection-step at o CheckOutStarted l j = refl
-connection-step at o (CheckOutFailed reason) l j = refl
-connection-step at o (ConnectionCreated i) l j = go (i == j)
+connection-step : (p n : ℕ) (at o : Option ℕ) (t : Told) (l : List Recorded) (j : ℕ) → connection_of j (record { pool = p; line = n; event = record { at = at; caller = o; told = t } } ∷ l) ≡ if_named (id_of t) j (connection_after t at n (facts_of l) (connection_of j l)) (connection_of j l)
+connection-step p n at o (PoolCreated limits) l j = refl
+connection-step p n at o PoolReady l j = refl
+connection-step p n at o (PoolCleared all) l j = refl
+connection-step p n at o PoolClosed l j = refl
+connection-step p n at o CheckOutStarted l j = refl
+connection-step p n at o (CheckOutFailed reason) l j = refl
+connection-step p n at o (ConnectionCreated i) l j = go (i == j)
   where
     old : Connection
     old = connection_of j l
@@ -85,53 +84,67 @@ connection-step at o (ConnectionCreated i) l j = go (i == j)
       generation = if b then count clears l else old.generation;
       readied_after = if b then 0 else old.readied_after;
       rested_at = if b then None else old.rested_at;
-    } ≡ (if b then new_connection (facts_of l) else old)
+      lines = record {
+        created = if b then Some n else old.lines.created;
+        readied = if b then None else old.lines.readied;
+        moved = if b then Some n else old.lines.moved;
+        rested = if b then None else old.lines.rested;
+        closed = if b then None else old.lines.closed;
+      };
+    } ≡ (if b then connection_after (ConnectionCreated i) at n (facts_of l) old else old)
     go true = refl
     go false = refl
-connection-step at o (ConnectionReady i) l j = go (i == j)
+connection-step p n at o (ConnectionReady i) l j = go (i == j)
   where
     old : Connection
     old = connection_of j l
 
-    go : (b : Bool) → record old { is_readied = b || old.is_readied; readied_after = if b then count pauses l else old.readied_after; rested_at = if b then at else old.rested_at } ≡ (if b then record old { is_readied = true; readied_after = count pauses l; rested_at = at } else old)
+    go : (b : Bool) → record old { is_readied = b || old.is_readied; readied_after = if b then count pauses l else old.readied_after; rested_at = if b then at else old.rested_at; lines = record old.lines { readied = if b then Some n else old.lines.readied; rested = if b then Some n else old.lines.rested } }
+        ≡ (if b then connection_after (ConnectionReady i) at n (facts_of l) old else old)
     go true = refl
     go false = refl
-connection-step at o (ConnectionClosed i reason) l j = go (i == j)
+connection-step p n at o (ConnectionClosed i reason) l j = go (i == j)
   where
     old : Connection
     old = connection_of j l
 
-    go : (b : Bool) → record old { is_closed = b || old.is_closed } ≡ (if b then record old { is_closed = true } else old)
+    go : (b : Bool) → record old { is_closed = b || old.is_closed; lines = record old.lines { closed = if b then Some n else old.lines.closed } } ≡ (if b then connection_after (ConnectionClosed i reason) at n (facts_of l) old else old)
     go true = refl
     go false = refl
-connection-step at o (CheckedOut i) l j = go (i == j)
+connection-step p n at o (CheckedOut i) l j = go (i == j)
   where
     old : Connection
     old = connection_of j l
 
-    go : (b : Bool) → record old { is_out = if b then true else old.is_out; was_out = b || old.was_out } ≡ (if b then record old { is_out = true; was_out = true } else old)
+    go : (b : Bool) → record old { is_out = if b then true else old.is_out; was_out = b || old.was_out; lines = record old.lines { moved = if b then Some n else old.lines.moved } } ≡ (if b then connection_after (CheckedOut i) at n (facts_of l) old else old)
     go true = refl
     go false = refl
-connection-step at o (CheckedIn i) l j = go (i == j)
+connection-step p n at o (CheckedIn i) l j = go (i == j)
   where
     old : Connection
     old = connection_of j l
 
-    go : (b : Bool) → record old { is_out = if b then false else old.is_out; rested_at = if b then at else old.rested_at } ≡ (if b then record old { is_out = false; rested_at = at } else old)
+    go : (b : Bool) → record old { is_out = if b then false else old.is_out; rested_at = if b then at else old.rested_at; lines = record old.lines { moved = if b then Some n else old.lines.moved; rested = if b then Some n else old.lines.rested } }
+        ≡ (if b then connection_after (CheckedIn i) at n (facts_of l) old else old)
     go true = refl
     go false = refl
 
-abbrev caller_made : Bool → Bool → ℕ → Caller
-caller_made b c n = record { is_waiting = b; is_checking_out = c; place = n }
+abbrev caller_made : Bool → Bool → ℕ → Option ℕ → Caller
+caller_made b c place ended = record { is_waiting = b; is_checking_out = c; place = place; ended = ended }
 
 -- what one event more tells of a numbered check-out
-caller-step : (at o : Option ℕ) (t : Told) (l : List Event) (j : ℕ) → caller_of j (record { at = at; caller = o; told = t } ∷ l) ≡ if_named o j (caller_after t (1 + numbered l) (caller_of j l)) (caller_of j l)
-caller-step at None t l j = refl
-caller-step at (Some i) t l j = go (i == j) (starts_one t) (ends_wait t) (ends_check_out t)
+caller-step : (p n : ℕ) (at o : Option ℕ) (t : Told) (l : List Recorded) (j : ℕ) → caller_of j (record { pool = p; line = n; event = record { at = at; caller = o; told = t } } ∷ l) ≡ if_named o j (caller_after t n (1 + numbered l) (caller_of j l)) (caller_of j l)
+caller-step p n at None t l j = refl
+caller-step p n at (Some i) t l j = go (i == j) (starts_one t) (ends_wait t) (ends_check_out t)
   where
-    go : (b s e d : Bool) → caller_made (if b && s then true else (if b && e then false else waits j l)) (if b && s then true else (if b && d then false else is_checking_out j l)) (if b && s then 1 + numbered l else place j l)
-        ≡ (if b then (if s then caller_made true true (1 + numbered l) else caller_made (not e && waits j l) (not d && is_checking_out j l) (place j l)) else caller_of j l)
-    go true true e d = refl
+    old : Caller
+    old = caller_of j l
+
+    go : (b s e d : Bool)
+        → caller_made (if b && s then true else (if b && e then false else old.is_waiting)) (if b && s then true else (if b && d then false else old.is_checking_out)) (if b && s then 1 + numbered l else old.place) (if b && d then Some n else old.ended)
+        ≡ (if b then (if s then caller_made true true (1 + numbered l) (if d then Some n else old.ended) else caller_made (not e && old.is_waiting) (not d && old.is_checking_out) old.place (if d then Some n else old.ended)) else old)
+    go true true e true = refl
+    go true true e false = refl
     go true false true true = refl
     go true false true false = refl
     go true false false true = refl
@@ -139,8 +152,8 @@ caller-step at (Some i) t l j = go (i == j) (starts_one t) (ends_wait t) (ends_c
     go false s e d = refl
 
 -- what one event more tells of the order of check-outs
-turns-step : (at o : Option ℕ) (t : Told) (l : List Event) → turns_of (record { at = at; caller = o; told = t } ∷ l) ≡ turns_after t o (caller_numbered o l) (turns_of l)
-turns-step at o t l = refl
+turns-step : (p n : ℕ) (at o : Option ℕ) (t : Told) (l : List Recorded) → turns_of (record { pool = p; line = n; event = record { at = at; caller = o; told = t } } ∷ l) ≡ turns_after t n o (caller_numbered o l) (turns_of l)
+turns-step p n at o t l = refl
 
 -- what is named is this one, where its number is
 named-same : {A : Type 0} (o : Option ℕ) (j : ℕ) (named : Option ℕ → A) (of : ℕ → A) (f : A → A) (old : A) → ((i : ℕ) → named (Some i) ≡ of i) → if_named o j (f (named o)) old ≡ if_named o j (f (of j)) old
@@ -189,25 +202,25 @@ lives-stay r h goes q = ap (λ b. if (r.pool == q) && b then 1 + lives q h else 
     stay false = refl
 
 -- A table of what has a number in a pool: it stood for the events of each pool, and what the event names was replaced.
-module _ {A : Type 0} (r : Recorded) (h : List Recorded) (n : ℕ) (goes : begins r.event.told ≡ false) (own : n ≡ lives r.pool h) (o : Option ℕ) (of : ℕ → List Event → A) (c none : A) (old new : ℕ → ℕ → ℕ → A)
+module _ {A : Type 0} (r : Recorded) (h : List Recorded) (n : ℕ) (goes : begins r.event.told ≡ false) (own : n ≡ lives r.pool h) (o : Option ℕ) (of : ℕ → List Recorded → A) (c none : A) (old new : ℕ → ℕ → ℕ → A)
     (stands : (p i : ℕ) → old p (lives p h) i ≡ of i (life p h)) (fresh : (p m i : ℕ) → lives p h < m → old p m i ≡ none)
     (replaced : (q m j : ℕ) → new q m j ≡ if_key o r.pool n q m j c (old q m j))
-    (step : (j : ℕ) → if_named o j c (of j (life r.pool h)) ≡ of j (r.event ∷ life r.pool h)) where
+    (step : (j : ℕ) → if_named o j c (of j (life r.pool h)) ≡ of j (r ∷ life r.pool h)) where
   -- it stands for the event too
   kept : (q j : ℕ) → new q (lives q (r ∷ h)) j ≡ of j (life q (r ∷ h))
   kept q j = ap (λ m. new q m j) (lives-stay r h goes q) ∙ go (r.pool == q) refl
     where
-      here : new r.pool (lives r.pool h) j ≡ of j (onto r.event (life r.pool h))
+      here : new r.pool (lives r.pool h) j ≡ of j (onto r (life r.pool h))
       here =
           replaced r.pool (lives r.pool h) j
           ∙ ap (λ m. if_key o r.pool m r.pool (lives r.pool h) j c (old r.pool (lives r.pool h) j)) own
           ∙ if_key-here o r.pool (lives r.pool h) j c (old r.pool (lives r.pool h) j)
           ∙ ap (λ x. if_named o j c x) (stands r.pool j)
           ∙ step j
-          ∙ ap (λ b. of j (if b then r.event ∷ [] else r.event ∷ life r.pool h)) (sym goes)
+          ∙ ap (λ b. of j (if b then r ∷ [] else r ∷ life r.pool h)) (sym goes)
 
-      go : (b : Bool) → (r.pool == q) ≡ b → new q (lives q h) j ≡ of j (if b then onto r.event (life q h) else life q h)
-      go true u = subst (λ k. new k (lives k h) j ≡ of j (onto r.event (life k h))) (same r.pool q u) here
+      go : (b : Bool) → (r.pool == q) ≡ b → new q (lives q h) j ≡ of j (if b then onto r (life q h) else life q h)
+      go true u = subst (λ k. new k (lives k h) j ≡ of j (onto r (life k h))) (same r.pool q u) here
       go false u = replaced q (lives q h) j ∙ if_key-elsewhere o r.pool n q (lives q h) j c (old q (lives q h) j) (apart r.pool q n (lives q h) u) ∙ stands q j
 
   -- and has nothing of pools to come
@@ -233,39 +246,39 @@ module _ (r : Recorded) (g : Glance) (h : List Recorded) (old new : Judge) (n : 
   noted-pools : (q : ℕ) → pool_at new.pools q ≡ pool_made (lives q (r ∷ h)) (former_of q (r ∷ h)) (facts_of (life q (r ∷ h))) (turns_of (life q (r ∷ h)))
   noted-pools q = step.pools q ∙ go (r.pool == q) refl
     where
-      l : List Event
+      l : List Recorded
       l = life r.pool h
 
       made : Glance → Pool
-      made x = pool_made n (former_after_event r.event.told x.connection x.facts x.former) (facts_after r.event.told x.connection x.facts) (turns_after r.event.told r.event.caller x.caller x.turns)
+      made x = pool_made n (former_after_event r.event.told x.connection x.facts x.former) (facts_after r.event.told r.line x.connection x.facts) (turns_after r.event.told r.line r.event.caller x.caller x.turns)
 
-      told : made g ≡ pool_made n (former_after r.event.told l (former_of r.pool h)) (facts_of (r.event ∷ l)) (turns_of (r.event ∷ l))
+      told : made g ≡ pool_made n (former_after r.event.told l (former_of r.pool h)) (facts_of (r ∷ l)) (turns_of (r ∷ l))
       told =
           ap made known
-          ∙ ap (λ x. pool_made n x (facts_after r.event.told (connection_named (id_of r.event.told) l) (facts_of l)) (turns_of (r.event ∷ l))) (sym (former-step r.event.told l (former_of r.pool h)))
-          ∙ ap (λ f. pool_made n (former_after r.event.told l (former_of r.pool h)) f (turns_of (r.event ∷ l))) (sym (facts-step r.event.at r.event.caller r.event.told l))
+          ∙ ap (λ x. pool_made n x (facts_after r.event.told r.line (connection_named (id_of r.event.told) l) (facts_of l)) (turns_of (r ∷ l))) (sym (former-step r.event.told l (former_of r.pool h)))
+          ∙ ap (λ f. pool_made n (former_after r.event.told l (former_of r.pool h)) f (turns_of (r ∷ l))) (sym (facts-step r.pool r.line r.event.at r.event.caller r.event.told l))
 
       after : Bool → ℕ → Pool
-      after b k = pool_made (if b then 1 + lives k h else lives k h) (former_after r.event.told (life k h) (former_of k h)) (facts_of (if b then r.event ∷ [] else r.event ∷ life k h)) (turns_of (if b then r.event ∷ [] else r.event ∷ life k h))
+      after b k = pool_made (if b then 1 + lives k h else lives k h) (former_after r.event.told (life k h) (former_of k h)) (facts_of (if b then r ∷ [] else r ∷ life k h)) (turns_of (if b then r ∷ [] else r ∷ life k h))
 
       here : made g ≡ after (begins r.event.told) r.pool
-      here = told ∙ ap (λ m. pool_made m (former_after r.event.told l (former_of r.pool h)) (facts_of (r.event ∷ l)) (turns_of (r.event ∷ l))) own ∙ ap (λ b. after b r.pool) (sym goes)
+      here = told ∙ ap (λ m. pool_made m (former_after r.event.told l (former_of r.pool h)) (facts_of (r ∷ l)) (turns_of (r ∷ l))) own ∙ ap (λ b. after b r.pool) (sym goes)
 
-      go : (b : Bool) → (r.pool == q) ≡ b → (if b then made g else pool_at old.pools q) ≡ pool_made (if b && begins r.event.told then 1 + lives q h else lives q h) (if b then former_after r.event.told (life q h) (former_of q h) else former_of q h) (facts_of (if b then onto r.event (life q h) else life q h)) (turns_of (if b then onto r.event (life q h) else life q h))
+      go : (b : Bool) → (r.pool == q) ≡ b → (if b then made g else pool_at old.pools q) ≡ pool_made (if b && begins r.event.told then 1 + lives q h else lives q h) (if b then former_after r.event.told (life q h) (former_of q h) else former_of q h) (facts_of (if b then onto r (life q h) else life q h)) (turns_of (if b then onto r (life q h) else life q h))
       go true u = here ∙ ap (λ k. after (begins r.event.told) k) (same r.pool q u)
       go false u = stands.pools q
 
-  named-step : (j : ℕ) → if_named (id_of r.event.told) j (connection_after r.event.told r.event.at g.facts g.connection) (connection_of j (life r.pool h)) ≡ connection_of j (r.event ∷ life r.pool h)
+  named-step : (j : ℕ) → if_named (id_of r.event.told) j (connection_after r.event.told r.event.at r.line g.facts g.connection) (connection_of j (life r.pool h)) ≡ connection_of j (r ∷ life r.pool h)
   named-step j =
-      ap (λ x. if_named (id_of r.event.told) j (connection_after r.event.told r.event.at x.facts x.connection) (connection_of j (life r.pool h))) known
-      ∙ named-same (id_of r.event.told) j (λ o. connection_named o (life r.pool h)) (λ i. connection_of i (life r.pool h)) (connection_after r.event.told r.event.at (facts_of (life r.pool h))) (connection_of j (life r.pool h)) (λ i. refl)
-      ∙ sym (connection-step r.event.at r.event.caller r.event.told (life r.pool h) j)
+      ap (λ x. if_named (id_of r.event.told) j (connection_after r.event.told r.event.at r.line x.facts x.connection) (connection_of j (life r.pool h))) known
+      ∙ named-same (id_of r.event.told) j (λ o. connection_named o (life r.pool h)) (λ i. connection_of i (life r.pool h)) (connection_after r.event.told r.event.at r.line (facts_of (life r.pool h))) (connection_of j (life r.pool h)) (λ i. refl)
+      ∙ sym (connection-step r.pool r.line r.event.at r.event.caller r.event.told (life r.pool h) j)
 
-  numbered-step : (j : ℕ) → if_named r.event.caller j (caller_after r.event.told (1 + g.turns.started) g.caller) (caller_of j (life r.pool h)) ≡ caller_of j (r.event ∷ life r.pool h)
+  numbered-step : (j : ℕ) → if_named r.event.caller j (caller_after r.event.told r.line (1 + g.turns.started) g.caller) (caller_of j (life r.pool h)) ≡ caller_of j (r ∷ life r.pool h)
   numbered-step j =
-      ap (λ x. if_named r.event.caller j (caller_after r.event.told (1 + x.turns.started) x.caller) (caller_of j (life r.pool h))) known
-      ∙ named-same r.event.caller j (λ o. caller_numbered o (life r.pool h)) (λ i. caller_of i (life r.pool h)) (caller_after r.event.told (1 + numbered (life r.pool h))) (caller_of j (life r.pool h)) (λ i. refl)
-      ∙ sym (caller-step r.event.at r.event.caller r.event.told (life r.pool h) j)
+      ap (λ x. if_named r.event.caller j (caller_after r.event.told r.line (1 + x.turns.started) x.caller) (caller_of j (life r.pool h))) known
+      ∙ named-same r.event.caller j (λ o. caller_numbered o (life r.pool h)) (λ i. caller_of i (life r.pool h)) (caller_after r.event.told r.line (1 + numbered (life r.pool h))) (caller_of j (life r.pool h)) (λ i. refl)
+      ∙ sym (caller-step r.pool r.line r.event.at r.event.caller r.event.told (life r.pool h) j)
 
   -- what is kept stands for the event too
   pub noted : Stands (r ∷ h) new

@@ -29,6 +29,13 @@ pauses PoolClosed = true
 pauses (PoolCleared all) = all
 pauses _ = false
 
+-- the pool is created, or is ready no more
+abbrev pub stops : Told → Bool
+stops (PoolCreated limits) = true
+stops PoolClosed = true
+stops (PoolCleared all) = all
+stops _ = false
+
 abbrev pub closes_pool : Told → Bool
 closes_pool PoolClosed = true
 closes_pool _ = false
@@ -141,6 +148,13 @@ abbrev pub frees : ℕ → Told → Bool
 frees i (ConnectionCreated j) = j == i
 frees i (CheckedIn j) = j == i
 frees i _ = false
+
+-- somebody has the connection from now on, or it is nobody's
+abbrev pub moves : ℕ → Told → Bool
+moves i (ConnectionCreated j) = j == i
+moves i (CheckedOut j) = j == i
+moves i (CheckedIn j) = j == i
+moves i _ = false
 
 -- the connection lies in the pool from now on
 abbrev pub rests : ℕ → Told → Bool

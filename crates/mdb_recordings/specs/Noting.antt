@@ -32,18 +32,18 @@ SetsNumbered (Some id) p n c old new = (q m i : ℕ) → caller_at new q m i ≡
 
 -- a pool began at an address at which so many began before, and of which so much was known
 pub record Begins (r : Recorded) (g : Glance) (n : ℕ) (old new : Judge) : Type 0 where
-  pub pools : SetsPool r.pool (1 + n) (former_after_event r.event.told g.connection g.facts g.former) (facts_after r.event.told no_connection (facts_of [])) (turns_of []) old.pools new.pools
+  pub pools : SetsPool r.pool (1 + n) (former_after_event r.event.told g.connection g.facts g.former) (facts_after r.event.told r.line no_connection (facts_of [])) (turns_of []) old.pools new.pools
   pub connections : new.connections ≡ old.connections
   pub callers : new.callers ≡ old.callers
 
 -- what an event changes of the connection and of the check-out that it names, where so much was known of them
 pub record Names (r : Recorded) (g : Glance) (n : ℕ) (old new : Judge) : Type 0 where
   pub pools : new.pools ≡ old.pools
-  pub connections : SetsNamed (id_of r.event.told) r.pool n (connection_after r.event.told r.event.at g.facts g.connection) old.connections new.connections
-  pub callers : SetsNumbered r.event.caller r.pool n (caller_after r.event.told (1 + g.turns.started) g.caller) old.callers new.callers
+  pub connections : SetsNamed (id_of r.event.told) r.pool n (connection_after r.event.told r.event.at r.line g.facts g.connection) old.connections new.connections
+  pub callers : SetsNumbered r.event.caller r.pool n (caller_after r.event.told r.line (1 + g.turns.started) g.caller) old.callers new.callers
 
 -- an event of a pool came, of which so much was known
 pub record GoesOn (r : Recorded) (g : Glance) (n : ℕ) (old new : Judge) : Type 0 where
-  pub pools : SetsPool r.pool n (former_after_event r.event.told g.connection g.facts g.former) (facts_after r.event.told g.connection g.facts) (turns_after r.event.told r.event.caller g.caller g.turns) old.pools new.pools
-  pub connections : SetsNamed (id_of r.event.told) r.pool n (connection_after r.event.told r.event.at g.facts g.connection) old.connections new.connections
-  pub callers : SetsNumbered r.event.caller r.pool n (caller_after r.event.told (1 + g.turns.started) g.caller) old.callers new.callers
+  pub pools : SetsPool r.pool n (former_after_event r.event.told g.connection g.facts g.former) (facts_after r.event.told r.line g.connection g.facts) (turns_after r.event.told r.line r.event.caller g.caller g.turns) old.pools new.pools
+  pub connections : SetsNamed (id_of r.event.told) r.pool n (connection_after r.event.told r.event.at r.line g.facts g.connection) old.connections new.connections
+  pub callers : SetsNumbered r.event.caller r.pool n (caller_after r.event.told r.line (1 + g.turns.started) g.caller) old.callers new.callers

@@ -1,5 +1,5 @@
 -- The rules: when an event breaks one, by what the events before it tell of its pool and of the connection that it names.
-use Rattle.std.specs.Prelude.{ℕ, ◌-◌, ◌*◌, Bool, true, false, not, ◌&&◌, ◌||◌, ◌==◌, nat_lt, nat_le, is_some, List, Option, Some}
+use Rattle.std.specs.Prelude.{ℕ, ◌-◌, ◌*◌, Bool, true, false, not, ◌&&◌, ◌||◌, ◌==◌, nat_lt, nat_le, is_some, List, Option, Some, None}
 use Rattle.mdb_recordings.specs.Events.{begins, turns_ready, clears, closes_pool, closes_stale, closes_in_open, creates_one, readies_one, closes_one, checks_out_one, checks_in_one, uses_one, goes_on, needs_pool, id_of, ends_check_out, ends_wait}
 use Rattle.mdb_recordings.specs.Lives.{life, facts_of, former_of, hands_out, live, waiting, connection_named, turns_of, caller_numbered}
 use Rattle.mdb_recordings.specs.declared.event.Event.{Event}
@@ -159,3 +159,49 @@ glance_of h r = record {
 -- By the standard of that time the event breaks the rule, after these events, the last of them newest.
 abbrev pub breaks : Standard → Rule → List Recorded → Recorded → Bool
 breaks standard rule h r = has_rule standard rule && is_seen rule (glance_of h r) r.event
+
+-- The line of the event that a finding contradicts, where so much is known before it: the event without which, or with which another way, the rule
+-- would be kept. There is none where something is missing, and none where many events come together.
+abbrev pub contradicted : Rule → Glance → Option ℕ
+-- the pool that is open was created there, and so were its options told
+contradicted PoolCreatedTwice g = g.facts.lines.created
+contradicted TooMany g = g.facts.lines.created
+contradicted TooManyPending g = g.facts.lines.created
+-- the pool was closed there
+contradicted PoolIsClosed g = g.facts.lines.closed
+-- it turned ready there last
+contradicted PoolReadiedTwice g = g.facts.lines.readied
+-- it was created, cleared or closed there last, and so is not ready
+contradicted ClearedWhilePaused g = g.facts.lines.stopped
+contradicted PoolNotReady g = g.facts.lines.stopped
+contradicted CreatedWhilePaused g = g.facts.lines.stopped
+-- all of it was cleared there last
+contradicted IsStale g = g.facts.lines.cleared
+-- the connection was created there last
+contradicted CreatedTwice g = g.connection.lines.created
+contradicted NotReadied g = g.connection.lines.created
+contradicted NotCleared g = g.connection.lines.created
+-- it became ready there
+contradicted ReadiedTwice g = g.connection.lines.readied
+-- it was checked out, checked in or created there last, and so somebody has it, or nobody
+contradicted OutTwice g = g.connection.lines.moved
+contradicted NotOut g = g.connection.lines.moved
+contradicted ClosedWhileOut g = g.connection.lines.moved
+contradicted ClosedInUse g = g.connection.lines.moved
+-- it was put into the pool there last
+contradicted IsIdle g = g.connection.lines.rested
+-- it was closed there last
+contradicted ClosedTwice g = g.connection.lines.closed
+contradicted IsClosed g = g.connection.lines.closed
+-- the check-out with this number ended there last
+contradicted NotStarted g = g.caller.ended
+-- the check-out that was started last, of those that were served, was served there
+contradicted OutOfTurn g = g.turns.latest_on
+contradicted PoolNotCreated g = None
+contradicted LeftInPool g = None
+contradicted NotCreated g = None
+contradicted HasNoReason g = None
+
+-- the line of the event that an event contradicts which breaks the rule after these events
+abbrev pub against : Rule → List Recorded → Recorded → Option ℕ
+against rule h r = contradicted rule (glance_of h r)

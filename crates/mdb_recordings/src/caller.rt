@@ -1,7 +1,7 @@
 //! What is known of one numbered check-out.
 
 ghost use Rattle.std.specs.Prelude.{◌≡◌};
-ghost use Rattle.mdb_recordings.specs.Steps.{caller_after};
+ghost use Rattle.mdb_recordings.specs.Steps.{caller_after, ended_after};
 
 use crate::event::Told;
 
@@ -14,6 +14,8 @@ pub struct Caller {
     pub is_checking_out: bool,
     /// Its place among the numbered check-outs, in the order of their starts, from 1 on.
     pub place: u64,
+    /// The line on which one with the number ended last.
+    pub ended: Option<u64>,
 }
 
 impl Caller {
@@ -22,23 +24,37 @@ impl Caller {
         is_waiting: false,
         is_checking_out: false,
         place: 0,
+        ended: None,
     };
 
-    /// After an event that has its number; `place` is that of a check-out that starts now.
-    pub(crate) fn after(self, told: &Told, place: u64) -> Caller
-        ensures { result ≡ caller_after told.now place self }
+    fn ended_after(&self, told: &Told, line: u64) -> Option<u64>
+        ensures { result ≡ ended_after told.now line self.now.ended }
     {
+        if told.ends_check_out() {
+            Some(line)
+        } else {
+            self.ended
+        }
+    }
+
+    /// After an event on this line that has its number; `place` is that of a check-out that starts now.
+    pub(crate) fn after(self, told: &Told, line: u64, place: u64) -> Caller
+        ensures { result ≡ caller_after told.now line place self }
+    {
+        let ended = self.ended_after(told, line);
         if told.starts() {
             Caller {
                 is_waiting: true,
                 is_checking_out: true,
                 place,
+                ended,
             }
         } else {
             Caller {
                 is_waiting: !told.ends_wait() && self.is_waiting,
                 is_checking_out: !told.ends_check_out() && self.is_checking_out,
-                ..self
+                place: self.place,
+                ended,
             }
         }
     }

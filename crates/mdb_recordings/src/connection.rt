@@ -1,8 +1,9 @@
 //! What is known of one connection.
 
 ghost use Rattle.std.specs.Prelude.{◌≡◌};
-ghost use Rattle.mdb_recordings.specs.Steps.{connection_after, new_connection};
+ghost use Rattle.mdb_recordings.specs.Steps.{connection_after, connection_state_after, new_connection};
 
+use crate::connection_lines::ConnectionLines;
 use crate::event::{Event, Told};
 use crate::facts::{Facts, hands_out};
 
@@ -24,6 +25,7 @@ pub struct Connection {
     pub readied_after: u64,
     /// When it was put into the pool last, in microseconds, as far as that was told.
     pub rested_at: Option<u64>,
+    pub lines: ConnectionLines,
 }
 
 impl Connection {
@@ -38,26 +40,28 @@ impl Connection {
         generation: 0,
         readied_after: 0,
         rested_at: None,
+        lines: ConnectionLines::UNTOLD,
     };
 
     // One that its pool just created, of which so much is known.
-    fn created(facts: &Facts) -> Connection
-        ensures { result ≡ new_connection facts.now }
+    fn created(facts: &Facts, lines: ConnectionLines) -> Connection
+        ensures { result ≡ new_connection facts.now lines }
     {
         Connection {
             is_created: true,
             is_wanted: hands_out(facts),
             generation: facts.clears,
+            lines,
             ..Connection::UNTOLD
         }
     }
 
-    /// After an event that names it, where so much was known of its pool before.
-    pub(crate) fn after(self, event: &Event, facts: &Facts) -> Connection
-        ensures { result ≡ connection_after event.now.told event.now.at facts.now self }
+    // Its state after an event that names it, where so much was known of its pool before.
+    fn state_after(self, event: &Event, facts: &Facts) -> Connection
+        ensures { result ≡ connection_state_after event.now.told event.now.at facts.now self }
     {
         match event.told {
-            Told::ConnectionCreated(_) => Connection::created(facts),
+            Told::ConnectionCreated(_) => Connection::created(facts, self.lines),
             Told::ConnectionReady(_) => Connection {
                 is_readied: true,
                 readied_after: facts.pauses,
@@ -79,6 +83,16 @@ impl Connection {
                 ..self
             },
             _ => self,
+        }
+    }
+
+    /// After an event on this line that names it, where so much was known of its pool before.
+    pub(crate) fn after(self, event: &Event, line: u64, facts: &Facts) -> Connection
+        ensures { result ≡ connection_after event.now.told event.now.at line facts.now self }
+    {
+        Connection {
+            lines: self.lines.after(&event.told, line),
+            ..self.state_after(event, facts)
         }
     }
 }

@@ -61,10 +61,11 @@ pub struct Event {
     pub told: Told,
 }
 
-/// An event, and the number of the address of its pool.
+/// An event, the number of the address of its pool, and the number of the line that tells it.
 #[derive(Clone, Copy, Debug)]
 pub struct Recorded {
     pub pool: u32,
+    pub line: u64,
     pub event: Event,
 }
 

@@ -2,10 +2,11 @@
 
 ghost use Rattle.std.specs.Prelude.{◌≡◌, ◌+◌, ◌-◌, IfOk, if◌then◌else◌};
 ghost use Rattle.mdb_recordings.specs.Lives.{hands_out, live, waiting};
-ghost use Rattle.mdb_recordings.specs.Steps.{facts_after, facts_after_connection, facts_once_closed, is_lying, lying_without};
+ghost use Rattle.mdb_recordings.specs.Steps.{facts_after, facts_after_connection, facts_state_after, facts_once_closed, is_lying, lying_without};
 
 use crate::connection::Connection;
 use crate::event::{CloseReason, Limits, Told};
+use crate::pool_lines::PoolLines;
 use mdb_base::OutOfMemory;
 
 /// What the events of a pool tell of it, since it was created.
@@ -36,6 +37,7 @@ pub struct Facts {
     pub failed: u64,
     /// Connections that were handed out, came back, and lie in the pool.
     pub lying: u64,
+    pub lines: PoolLines,
 }
 
 // A count past 2^64 - 1 is more than memory could have brought.
@@ -109,11 +111,28 @@ impl Facts {
         ins: 0,
         failed: 0,
         lying: 0,
+        lines: PoolLines::UNTOLD,
     };
 
-    /// After an event that may name the connection.
-    pub(crate) fn after(self, told: &Told, connection: &Connection) -> Result<Facts, OutOfMemory>
-        ensures { IfOk result (λ x. x ≡ facts_after told.now connection.now self) }
+    /// After an event on this line that may name the connection.
+    pub(crate) fn after(
+        self,
+        told: &Told,
+        line: u64,
+        connection: &Connection,
+    ) -> Result<Facts, OutOfMemory>
+        ensures { IfOk result (λ x. x ≡ facts_after told.now line connection.now self) }
+    {
+        let state = self.state_after(told, connection)?;
+        Ok(Facts {
+            lines: self.lines.after(told, line),
+            ..state
+        })
+    }
+
+    // Its state after an event that may name the connection.
+    fn state_after(self, told: &Told, connection: &Connection) -> Result<Facts, OutOfMemory>
+        ensures { IfOk result (λ x. x ≡ facts_state_after told.now connection.now self) }
     {
         match told {
             Told::PoolCreated(limits) => Ok(Facts {

@@ -83,7 +83,7 @@ impl Judge {
         let told = &recorded.event.told;
         let lives = one_more(lives)?;
         let former = known.former.after(told, &known.connection, &known.facts)?;
-        let facts = Facts::UNTOLD.after(told, &Connection::UNTOLD)?;
+        let facts = Facts::UNTOLD.after(told, recorded.line, &Connection::UNTOLD)?;
         let turns = Turns::UNTOLD;
         let pool = Pool {
             lives,
@@ -100,13 +100,13 @@ impl Judge {
     {
         let event = &recorded.event;
         if let Some(id) = event.told.id() {
-            let connection = known.connection.after(event, &known.facts);
+            let connection = known.connection.after(event, recorded.line, &known.facts);
             self.connections
                 .set((recorded.pool, lives, id), connection)?;
         }
         if let Some(number) = event.caller {
             let place = one_more(known.turns.started)?;
-            let caller = known.caller.after(&event.told, place);
+            let caller = known.caller.after(&event.told, recorded.line, place);
             self.callers.set((recorded.pool, lives, number), caller)?;
         }
         Ok(())
@@ -120,8 +120,10 @@ impl Judge {
         let former = known
             .former
             .after(&event.told, &known.connection, &known.facts)?;
-        let facts = known.facts.after(&event.told, &known.connection)?;
-        let turns = known.turns.after(event, &known.caller)?;
+        let facts = known
+            .facts
+            .after(&event.told, recorded.line, &known.connection)?;
+        let turns = known.turns.after(event, recorded.line, &known.caller)?;
         self.name(recorded, known, lives)?;
         let pool = Pool {
             lives,

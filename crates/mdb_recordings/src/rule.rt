@@ -2,7 +2,7 @@
 
 ghost use Rattle.std.specs.Prelude.{◌≡◌, ◌==◌, ◌-◌, List};
 ghost use Rattle.mdb_recordings.specs.Lives.{waiting};
-ghost use Rattle.mdb_recordings.specs.Rules.{breaks, fails_unfounded, glance_of, has_rule, is_broken, is_connection_broken, is_first, is_passed, is_past, is_paused, is_pool_broken, is_seen, is_unfounded, is_unstarted, may_be_cleared, may_be_former, pending};
+ghost use Rattle.mdb_recordings.specs.Rules.{against, breaks, contradicted, fails_unfounded, glance_of, has_rule, is_broken, is_connection_broken, is_first, is_passed, is_past, is_paused, is_pool_broken, is_seen, is_unfounded, is_unstarted, may_be_cleared, may_be_former, pending};
 ghost use Rattle.mdb_recordings.specs.declared.event.Recorded.{Recorded as Event_};
 
 use crate::caller::Caller;
@@ -228,4 +228,37 @@ pub fn breaks(standard: Standard, rule: Rule, known: &Glance, recorded: &Recorde
     ensures { (h : List Event_) → known.now ≡ glance_of h recorded.now → result ≡ breaks standard rule h recorded.now }
 {
     has_rule(standard, rule) && is_seen(rule, known, &recorded.event)
+}
+
+fn contradicted(rule: Rule, known: &Glance) -> Option<u64>
+    ensures { result ≡ contradicted rule known.now }
+{
+    let pool = &known.facts.lines;
+    let connection = &known.connection.lines;
+    match rule {
+        Rule::PoolCreatedTwice | Rule::TooMany | Rule::TooManyPending => pool.created,
+        Rule::PoolIsClosed => pool.closed,
+        Rule::PoolReadiedTwice => pool.readied,
+        Rule::ClearedWhilePaused | Rule::PoolNotReady | Rule::CreatedWhilePaused => pool.stopped,
+        Rule::IsStale => pool.cleared,
+        Rule::CreatedTwice | Rule::NotReadied | Rule::NotCleared => connection.created,
+        Rule::ReadiedTwice => connection.readied,
+        Rule::OutTwice | Rule::NotOut | Rule::ClosedWhileOut | Rule::ClosedInUse => {
+            connection.moved
+        }
+        Rule::IsIdle => connection.rested,
+        Rule::ClosedTwice | Rule::IsClosed => connection.closed,
+        Rule::NotStarted => known.caller.ended,
+        Rule::OutOfTurn => known.turns.latest_on,
+        Rule::PoolNotCreated | Rule::LeftInPool | Rule::NotCreated | Rule::HasNoReason => None,
+    }
+}
+
+/// The line of the event that an event contradicts which breaks the rule, where so much is known before it: none where something is missing, or where
+/// many events come together.
+pub fn against(rule: Rule, known: &Glance, recorded: &Recorded) -> Option<u64>
+    ensures { (h : List Event_) → known.now ≡ glance_of h recorded.now → result ≡ against rule h recorded.now }
+{
+    let _event = &recorded.event;
+    contradicted(rule, known)
 }
