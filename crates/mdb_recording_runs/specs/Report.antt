@@ -51,7 +51,7 @@ abbrev pub section_text : List ℕ → List ℕ
 section_text section = codes " section=" ++ (section ++ codes "\n")
 
 -- the line of the event that it contradicts, if there is one
-abbrev pub against_text : Option ℕ → List ℕ
+unfoldable pub against_text : Option ℕ → List ℕ
 against_text None = []
 against_text (Some n) = codes " against=" ++ decimal n
 

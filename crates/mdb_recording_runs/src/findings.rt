@@ -38,6 +38,7 @@ pub fn section_text(alloc: Global, section: &str) -> Result<String, OutOfMemory>
 }
 
 /// The line of the event that a finding contradicts, if there is one.
+#[tactic(auto, unfolding(crate::specs::Report::against_text))]
 pub fn against_text(alloc: Global, line: Option<u64>) -> Result<String, OutOfMemory>
     ensures { IfOk result (λ s. string_bytes s ≡ against_text line) }
 {

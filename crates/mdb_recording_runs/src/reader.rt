@@ -57,8 +57,11 @@ impl Reader {
             → Keeps standard (after_event standard number s address.now event) (text ++ event_text standard number s address.now event) self.new) }
     {
         let pool = self.names.number(self.alloc, address)?;
-        let line = number;
-        let recorded = Recorded { pool, line, event };
+        let recorded = Recorded {
+            pool,
+            line: number,
+            event,
+        };
         let known = self.judge.look(&recorded);
         let place = EventContext {
             standard: self.standard,
@@ -102,9 +105,11 @@ impl Reader {
             → Keeps standard (after_said standard number s (tells_server address.now told)) (text ++ said_text standard number s (tells_server address.now told)) self.new) }
     {
         let server = self.servers.number(self.alloc, address)?;
-        let event = ServerEvent::Server(server, told);
-        let line = number;
-        self.take_seen(Some(address), &Seen { line, event })?;
+        let seen = Seen {
+            line: number,
+            event: ServerEvent::Server(server, told),
+        };
+        self.take_seen(Some(address), &seen)?;
         Ok(())
     }
 
@@ -139,8 +144,11 @@ impl Reader {
             Line::Told(address, event) => self.take_event(number, address, event),
             Line::OfServer(address, told) => self.take_server(number, address, told),
             Line::OfTopology(event) => {
-                let line = number;
-                self.take_seen(None, &Seen { line, event })
+                let seen = Seen {
+                    line: number,
+                    event,
+                };
+                self.take_seen(None, &seen)
             }
         }
     }
